@@ -1,0 +1,3 @@
+pub mod System
+pub mod Assumed
+pub mod Charges
