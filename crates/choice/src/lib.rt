@@ -1,0 +1,1 @@
+// Who is chosen: definitions in specs/.

@@ -1,0 +1,67 @@
+-- "Calls from C": the state image, 320 bytes, both ways, and when an image is refused.
+use mathlib.Core.Bool.{Bool, true, false, _&&_}
+use mathlib.Core.List.{List, [], _∷_, _++_}
+use Prim.Native.Nat.{ℕ, _+_, _*_}
+use lib.Dec.{eqb}
+use lib.ListN.{length}
+use Rattle.below.specs.Listed.{listed}
+use Rattle.text.specs.Bytes.{same}
+use Rattle.plan.specs.declared.Plan.{Plan}
+use Rattle.plan.specs.Limits.{mostSubsystems, mostTasks}
+use Rattle.state.specs.declared.BudgetLeft.{BudgetLeft}
+use Rattle.state.specs.declared.Task.{Task}
+use Rattle.state.specs.declared.State.{State}
+use Rattle.state.specs.State.{mostHeld, taskAt, leftOf, refillOf, usedOf}
+use Rattle.state.specs.Legal.{legal}
+use Rattle.image.specs.Words.{word, byteAt, wordAt}
+
+abbrev pub imageBytes : ℕ
+imageBytes = 320
+
+-- tasks stand behind the 8 bytes of each subsystem
+abbrev pub tasksAt : ℕ
+tasksAt = 64
+
+-- budget left, to refill, used, 0
+unfoldable pub subsystemBytes : State → ℕ → List ℕ
+subsystemBytes s c = word (leftOf s c .0) ++ (word (refillOf s c) ++ (word (usedOf s c) ++ word 0))
+
+-- condition, resource waited for or 255, held count, four held or 255, 0
+unfoldable pub taskBytes : Task → List ℕ
+taskBytes t = t .condition ∷ t .waits ∷ t .count ∷ (t .held ++ (0 ∷ []))
+
+-- lists one behind the other
+unfoldable pub joined : List (List ℕ) → List ℕ
+joined [] = []
+joined (l ∷ ls) = l ++ joined ls
+
+unfoldable pub imageOf : State → List ℕ
+imageOf s = joined (listed mostSubsystems (subsystemBytes s)) ++ joined (listed mostTasks (λ k. taskBytes (taskAt s k)))
+
+-- the task that stands at a place
+unfoldable pub taskFrom : List ℕ → ℕ → Task
+taskFrom b at =
+    record {
+      condition = byteAt b at;
+      waits = byteAt b (at + 1);
+      count = byteAt b (at + 2);
+      held = listed mostHeld (λ i. byteAt b (at + 3 + i));
+    }
+
+-- the state that an image writes, legal or not
+unfoldable pub stateOf : List ℕ → State
+stateOf b =
+    record {
+      left = listed mostSubsystems (λ c. record { 0 = wordAt b (8 * c) });
+      refill = listed mostSubsystems (λ c. wordAt b (8 * c + 2));
+      used = listed mostSubsystems (λ c. wordAt b (8 * c + 4));
+      tasks = listed mostTasks (λ k. taskFrom b (tasksAt + 8 * k));
+    }
+
+-- the image of a state that is legal for the plan
+unfoldable pub isImage : Plan → List ℕ → Bool
+isImage p b = legal p (stateOf b) && same (imageOf (stateOf b)) b
+
+-- 34: wrong length; 32: the image of no legal state; else 0
+unfoldable pub imageNumber : Plan → List ℕ → ℕ
+imageNumber p b = elim (eqb (length b) imageBytes) [ false ↦ 34 | true ↦ elim (isImage p b) [ false ↦ 32 | true ↦ 0 ] ]

@@ -1,0 +1,3 @@
+pub mod Words
+pub mod Block
+pub mod Image

@@ -1,0 +1,1 @@
+// The plan block and the state image: definitions in specs/.

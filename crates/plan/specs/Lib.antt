@@ -1,0 +1,5 @@
+pub mod Limits
+pub mod Plan
+pub mod Ceiling
+pub mod Admission
+pub mod Accepted

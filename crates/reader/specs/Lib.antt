@@ -1,0 +1,5 @@
+pub mod Numbers
+pub mod Line
+pub mod Conditions
+pub mod Reading
+pub mod Margin

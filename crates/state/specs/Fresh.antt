@@ -1,0 +1,18 @@
+-- "State", fresh: all tasks idle, full budgets, full periods to go.
+use Prim.Native.Nat.{ℕ}
+use lib.ListN.{replicate}
+use Rattle.below.specs.Listed.{listed}
+use Rattle.plan.specs.declared.Plan.{Plan}
+use Rattle.plan.specs.Limits.{mostSubsystems, mostTasks}
+use Rattle.plan.specs.Plan.{period, budget}
+use Rattle.state.specs.declared.State.{State}
+use Rattle.state.specs.State.{idleTask}
+
+unfoldable pub fresh : Plan → State
+fresh p =
+    record {
+      left = listed mostSubsystems (λ c. record { 0 = budget p c });
+      refill = listed mostSubsystems (period p);
+      used = replicate mostSubsystems 0;
+      tasks = replicate mostTasks idleTask;
+    }

@@ -1,0 +1,4 @@
+pub mod State
+pub mod Update
+pub mod Fresh
+pub mod Legal

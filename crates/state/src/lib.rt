@@ -1,0 +1,21 @@
+// Budget left and section length left are two counts, of two types: one never stands for the other.
+pub struct BudgetLeft(pub u16);
+
+pub struct SectionLeft(pub u16);
+
+// condition: 0 idle, 1 ready, 2 started, 3 waiting. waits: the resource waited for, or 255. The first count entries of held are the
+// resources held, in the order taken; the others are 255.
+pub struct Task {
+    pub condition: u8,
+    pub waits: u8,
+    pub count: u8,
+    pub held: [u8; 4],
+}
+
+// Per subsystem: budget left, ticks to the next refill, ticks used of its global section. Absent subsystems are all 0, absent tasks look idle.
+pub struct State {
+    pub left: [BudgetLeft; 8],
+    pub refill: [u16; 8],
+    pub used: [u16; 8],
+    pub tasks: [Task; 32],
+}

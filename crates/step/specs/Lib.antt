@@ -1,0 +1,4 @@
+pub mod Refusals
+pub mod Events
+pub mod Tick
+pub mod Step

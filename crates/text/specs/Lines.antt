@@ -1,0 +1,36 @@
+-- "The plan text": one record a line, fields parted by one tab, each line ended by a line feed. Event files are written the same way.
+use mathlib.Core.Bool.{Bool, true, false}
+use mathlib.Core.List.{List, [], _∷_}
+use mathlib.Core.Option.{Option, none, some, Option·map}
+use Prim.Native.Nat.{ℕ}
+use lib.Dec.{eqb}
+
+abbrev pub tab : ℕ
+tab = 9
+
+abbrev pub lineFeed : ℕ
+lineFeed = 10
+
+-- a byte in front of the first piece, or as the only piece
+unfoldable pub onto : ℕ → List (List ℕ) → List (List ℕ)
+onto b [] = (b ∷ []) ∷ []
+onto b (l ∷ ls) = (b ∷ l) ∷ ls
+
+-- the lines of a text, each with its line feed; bytes after the last line feed are one more line, without
+unfoldable pub lines : List ℕ → List (List ℕ)
+lines [] = []
+lines (b ∷ bs) = elim (eqb b lineFeed) [ true ↦ (b ∷ []) ∷ lines bs | false ↦ onto b (lines bs) ]
+
+unfoldable pub emptyOrNone : List ℕ → Option (List ℕ)
+emptyOrNone [] = some []
+emptyOrNone (b ∷ bs) = none
+
+-- what stands before the line feed, where it is the last byte and the only line feed
+unfoldable pub body : List ℕ → Option (List ℕ)
+body [] = none
+body (b ∷ bs) = elim (eqb b lineFeed) [ true ↦ emptyOrNone bs | false ↦ Option·map (λ l. b ∷ l) (body bs) ]
+
+-- the fields of a line's body: what stands between its tabs
+unfoldable pub fields : List ℕ → List (List ℕ)
+fields [] = [] ∷ []
+fields (b ∷ bs) = elim (eqb b tab) [ true ↦ [] ∷ fields bs | false ↦ onto b (fields bs) ]

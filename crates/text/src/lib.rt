@@ -1,0 +1,1 @@
+// Bytes to numbers and back, fields and lines: definitions in specs/.
