@@ -1,7 +1,7 @@
 -- Laws of all, any and first: how a counting loop starts and goes on, what the answer says of each number below n, and that only the numbers below n count.
 use mathlib.Core.Path.{_≡_, refl, sym, ap, ap₂, _∙_}
 use mathlib.Core.Logic.{_⊎_, inl, inr, ⊎-elim}
-use mathlib.Core.Bool.{Bool, true, false, _&&_, _||_, true≢false, false≢true, or-true}
+use mathlib.Core.Bool.{Bool, true, false, _&&_, _||_, true≢false, false≢true, and-eq-true-iff, or-true}
 use Prim.Native.Nat.{ℕ, zero, suc, _+_, _≤_, _<_}
 use native.Mathlib.Nat.{le-of-suc-le-suc, eq-or-lt-of-le, not-suc-le-zero, le-step, lt-suc-self, lt-trans}
 use native.Mathlib.Numerals.{add-one}
@@ -26,14 +26,6 @@ pub record Failing (n : ℕ) (p : ℕ → Bool) : Type 0 where
   pub there : at < n
   pub fails : p at ≡ false
 
-and-left : (a b : Bool) → (a && b) ≡ true → a ≡ true
-and-left true b e = refl
-and-left false b e = e
-
-and-right : (a b : Bool) → (a && b) ≡ true → b ≡ true
-and-right true b e = e
-and-right false b e = absurd (false≢true e)
-
 -- all: the loop
 
 pub all-none : (p : ℕ → Bool) → all 0 p ≡ true
@@ -50,7 +42,7 @@ pub all-at : (n : ℕ) (p : ℕ → Bool) → all n p ≡ true → (k : ℕ) →
 unfolding all
 all-at zero p e k h = absurd (not-suc-le-zero h)
 all-at (suc n) p e k h =
-    ⊎-elim (λ q. ap p q ∙ and-right (all n p) (p n) e) (all-at n p (and-left (all n p) (p n) e) k) (last-or-before h)
+    ⊎-elim (λ q. ap p q ∙ and-eq-true-iff (all n p) (p n) .0 e .1) (all-at n p (and-eq-true-iff (all n p) (p n) .0 e .0) k) (last-or-before h)
 
 pub all-of : (n : ℕ) (p : ℕ → Bool) → ((k : ℕ) → k < n → p k ≡ true) → all n p ≡ true
 unfolding all

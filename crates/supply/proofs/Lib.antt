@@ -1,0 +1,3 @@
+pub mod High
+pub mod Most
+pub mod InTime
