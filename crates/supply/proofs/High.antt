@@ -1,8 +1,9 @@
 -- Sums over the rows at least as high as s, and what one tick takes from them.
 use mathlib.Core.Path.{_≡_, refl, sym, ap}
+use mathlib.Core.Logic.{_⊎_, inl, inr, ⊎-elim}
 use mathlib.Core.Bool.{Bool, true, false, cond}
 use Prim.Native.Nat.{ℕ, _+_, _≤_, _<_}
-use native.Mathlib.Nat.{le-refl}
+use native.Mathlib.Nat.{le-refl, eq-or-lt-of-le}
 use native.Mathlib.Omega.{arith}
 use lib.Dec.{leb, eqb}
 use borrow.Author.Tests.{le-leb, eq-eqb, eqb-true}
@@ -34,6 +35,10 @@ module _ (S : System) (s : ℕ) where
   pub high-at : (f : ℕ → ℕ) (h : ℕ) → h < S .rows → atLeastAsHigh S s h ≡ true → f h ≤ sumHigh S s f
   unfolding sumHigh
   high-at f h r t = rw t at (sum-at (S .rows) (λ k. cond (atLeastAsHigh S s k) (f k) 0) h r)
+
+-- the refill of a row comes with the next tick, or later
+pub now-or-later : (S : System) → Assumed S → (σ : S .State) → S .Legal σ → (h : ℕ) → h < S .rows → (S .refill σ h ≡ 1) ⊎ (1 < S .refill σ h)
+now-or-later S A σ legal h r = ⊎-elim (λ q. inl (sym q)) inr (eq-or-lt-of-le (A .refill-ahead σ legal h r))
 
 module _ (S : System) (A : Assumed S) (σ : S .State) (e : S .Event) (legal : S .Legal σ) (ticks : S .tick e ≡ true) where
   pub charged-one : (h : ℕ) → S .charged σ e ≡ h → charge S σ e h ≡ 1

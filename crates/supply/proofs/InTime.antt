@@ -1,5 +1,5 @@
 -- The invariant of the budget theorem: all that is due now at a row's level is done in time. It holds of a fresh state, and every event keeps it.
-use mathlib.Core.Path.{_≡_, refl, sym, ap, _∙_}
+use mathlib.Core.Path.{_≡_, refl, _∙_}
 use mathlib.Core.Logic.{_⊎_, inl, inr}
 use mathlib.Core.Bool.{Bool, true, false, _&&_, and-eq-true-iff}
 use Prim.Native.Nat.{ℕ, _+_, _-_, _*_, _≤_, _<_}
@@ -12,7 +12,7 @@ use Rattle.below.specs.Quotient.{roundedUp}
 use Rattle.below.proofs.Search.{any-true, any-false}
 use Rattle.supply.specs.System.{System}
 use Rattle.supply.specs.Assumed.{Assumed, Fresh, Pressed, atLeastAsHigh, sumHigh, charge}
-use Rattle.supply.proofs.High.{self-high, high-rises, high-at, charge-left, one-less}
+use Rattle.supply.proofs.High.{self-high, high-rises, high-at, now-or-later, charge-left, one-less}
 use Rattle.supply.proofs.Most.{most, Anew, empty, full, most-one, most-anew, most-tick}
 
 -- within some number of ticks, inside the period of s and before its refill if s is busy, what holds s back and what the rows at least as high can be charged is done
@@ -65,13 +65,11 @@ in-time-fresh S A σ f s r = in-time-anew S A σ (f .legal) s r (λ h u v. full 
 module _ (S : System) (A : Assumed S) (σ : S .State) (legal : S .Legal σ) (s : ℕ) (r : s < S .rows) (e : S .Event) where
   -- a tick that takes all that a row has left, or more, leaves it with nothing over from before
   anew-tick : S .tick e ≡ true → (h : ℕ) → h < S .rows → S .left σ h ≤ charge S σ e h → Anew S (S .next σ e) h
-  anew-tick t h u l = go (ltb 1 (S .refill σ h)) refl
+  anew-tick t h u l = go (now-or-later S A σ legal h u)
     where
-      go : (b : Bool) → ltb 1 (S .refill σ h) ≡ b → Anew S (S .next σ e) h
-      go true q = empty (omega (arith, A .tick-left σ e legal t h u (ltb-true 1 (S .refill σ h) q)))
-      go false q =
-          let v : S .refill σ h ≡ 1 = omega (arith, ltb-false 1 (S .refill σ h) q, A .refill-ahead σ legal h u) in
-          full (A .full-left σ e legal t h u v) (A .full-refill σ e legal t h u v)
+      go : (S .refill σ h ≡ 1) ⊎ (1 < S .refill σ h) → Anew S (S .next σ e) h
+      go (inl v) = full (A .full-left σ e legal t h u v) (A .full-refill σ e legal t h u v)
+      go (inr v) = empty (omega (arith, A .tick-left σ e legal t h u v))
 
   -- with one tick to do it in, the tick takes all that the rows at least as high have left
   last-tick : S .tick e ≡ true → Pressed S σ s → S .strict σ s + sumHigh S s (most S σ 1) ≤ 1
@@ -107,18 +105,15 @@ module _ (S : System) (A : Assumed S) (σ : S .State) (legal : S .Legal σ) (s :
     within = n .within - 1;
     ahead = omega arith;
     in-period = omega arith;
-    before-refill = go (ltb 1 (S .refill σ s)) refl;
+    before-refill = go (now-or-later S A σ legal s r);
     fits = omega (arith, n .fits, one-less S A σ e legal t s r p (most S (S .next σ e) (n .within - 1)) (most S σ (n .within)) (λ h u. most-tick S A σ legal h u e t (n .within) l));
   }
     where
-      go : (b : Bool) → ltb 1 (S .refill σ s) ≡ b → 0 < S .left (S .next σ e) s → n .within - 1 ≤ S .refill (S .next σ e) s
-      go true q b =
-          let v = ltb-true 1 (S .refill σ s) q in
+      go : (S .refill σ s ≡ 1) ⊎ (1 < S .refill σ s) → 0 < S .left (S .next σ e) s → n .within - 1 ≤ S .refill (S .next σ e) s
+      go (inl v) b = omega (arith, n .in-period, A .full-refill σ e legal t s r v)
+      go (inr v) b =
           omega
           (arith, n .before-refill (omega (arith, A .tick-left σ e legal t s r v)), A .tick-refill σ e legal t s r v)
-      go false q b =
-          let v : S .refill σ s ≡ 1 = omega (arith, ltb-false 1 (S .refill σ s) q, A .refill-ahead σ legal s r) in
-          omega (arith, n .in-period, A .full-refill σ e legal t s r v)
 
   -- every event keeps the invariant
   pub in-time-next : InTime S σ s → InTime S (S .next σ e) s

@@ -1,3 +1,4 @@
 pub mod High
 pub mod Most
 pub mod InTime
+pub mod Count

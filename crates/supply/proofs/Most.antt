@@ -1,17 +1,15 @@
 -- What a row can be charged at most in the ticks to come, and the facts about it that the argument uses.
-use mathlib.Core.Path.{_≡_, refl, sym, ap, _∙_}
+use mathlib.Core.Path.{_≡_}
+use mathlib.Core.Bool.{true}
 use mathlib.Core.Logic.{_⊎_, inl, inr}
-use mathlib.Core.Bool.{Bool, true, false}
 use Prim.Native.Nat.{ℕ, _+_, _-_, _*_, _≤_, _<_}
 use native.Mathlib.Nat.{mul-le-mul-left}
 use native.Mathlib.Omega.{arith}
-use lib.Dec.{ltb}
-use borrow.Author.Tests.{ltb-true, ltb-false}
 use Rattle.below.specs.Quotient.{roundedUp}
 use Rattle.below.proofs.Quotient.{roundedUp-zero, roundedUp-next, roundedUp-rises}
 use Rattle.supply.specs.System.{System}
 use Rattle.supply.specs.Assumed.{Assumed, charge}
-use Rattle.supply.proofs.High.{charge-left}
+use Rattle.supply.proofs.High.{now-or-later, charge-left}
 
 -- what row h can be charged in the next n ticks at most, n from 1 on: what it has left, and its budget for each refill before the last of them
 unfoldable pub most : (S : System) → S .State → ℕ → ℕ → ℕ
@@ -41,15 +39,10 @@ module _ (S : System) (A : Assumed S) (σ : S .State) (legal : S .Legal σ) (h :
   -- a tick takes its charge, and the ticks after it the rest
   pub most-tick : (e : S .Event) → S .tick e ≡ true → (n : ℕ) → 1 < n → most S (S .next σ e) (n - 1) h + charge S σ e h ≤ most S σ n h
   unfolding most
-  most-tick e t n u = go (ltb 1 (S .refill σ h)) refl
+  most-tick e t n u = go (now-or-later S A σ legal h there)
     where
-      go : (b : Bool) → ltb 1 (S .refill σ h) ≡ b → most S (S .next σ e) (n - 1) h + charge S σ e h ≤ most S σ n h
-      go true q =
-          let v = ltb-true 1 (S .refill σ h) q in
-          let z : n - 1 - S .refill (S .next σ e) h ≡ n - S .refill σ h = omega (arith, A .tick-refill σ e legal t h there v) in
-          rw z (omega (arith, A .tick-left σ e legal t h there v))
-      go false q =
-          let v : S .refill σ h ≡ 1 = omega (arith, ltb-false 1 (S .refill σ h) q, A .refill-ahead σ legal h there) in
+      go : (S .refill σ h ≡ 1) ⊎ (1 < S .refill σ h) → most S (S .next σ e) (n - 1) h + charge S σ e h ≤ most S σ n h
+      go (inl v) =
           rw (
             A .full-left σ e legal t h there v,
             A .full-refill σ e legal t h there v,
@@ -57,3 +50,6 @@ module _ (S : System) (A : Assumed S) (σ : S .State) (legal : S .Legal σ) (h :
             roundedUp-next (n - 1) (S .period h) (A .period-whole h there) (omega arith),
           )
           (omega (arith, charge-left S A σ e legal t h there))
+      go (inr v) =
+          let z : n - 1 - S .refill (S .next σ e) h ≡ n - S .refill σ h = omega (arith, A .tick-refill σ e legal t h there v) in
+          rw z (omega (arith, A .tick-left σ e legal t h there v))
