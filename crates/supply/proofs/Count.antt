@@ -1,18 +1,16 @@
 -- Counting the charges of a row up to its next refill: never more than it has left, and all of that once the refill is reached.
 use mathlib.Core.Path.{_≡_, refl, sym, ap, _∙_}
 use mathlib.Core.Logic.{_⊎_, inl, inr}
-use mathlib.Core.Bool.{Bool, true, false, cond}
+use mathlib.Core.Bool.{Bool, true, false}
 use mathlib.Core.List.{List, [], _∷_, _++_}
-use Prim.Native.Nat.{ℕ, zero, suc, _+_, _≤_, _<_}
+use Prim.Native.Nat.{ℕ, zero, suc, _≤_, _<_}
 use native.Mathlib.Omega.{arith}
-use lib.Dec.{ltb, eqb}
 use lib.ListN.{length, take}
-use borrow.Author.Tests.{ltb-true, ltb-false}
 use Rattle.supply.specs.System.{System}
-use Rattle.supply.specs.Assumed.{Assumed, Fresh, charge}
+use Rattle.supply.specs.Assumed.{Assumed, charge}
 use Rattle.supply.specs.Charges.{charges, count}
 use Rattle.supply.proofs.High.{now-or-later, charge-left}
-use Rattle.supply.proofs.InTime.{InTime, in-time-next, in-time-fresh, last-charge}
+use Rattle.supply.proofs.InTime.{InTime, in-time-next, last-charge}
 
 module _ (S : System) (σ : S .State) (e : S .Event) where
   charges-still : (es : List (S .Event)) → S .tick e ≡ false → charges S σ (e ∷ es) ≡ charges S (S .next σ e) es

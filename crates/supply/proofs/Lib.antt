@@ -2,3 +2,4 @@ pub mod High
 pub mod Most
 pub mod InTime
 pub mod Count
+pub mod Theorem
