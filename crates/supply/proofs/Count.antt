@@ -13,6 +13,7 @@ use Rattle.supply.proofs.High.{now-or-later, charge-left}
 use Rattle.supply.proofs.InTime.{InTime, in-time-next, last-charge}
 
 module _ (S : System) (σ : S .State) (e : S .Event) where
+  -- what the first event of a run adds to the charges
   charges-still : (es : List (S .Event)) → S .tick e ≡ false → charges S σ (e ∷ es) ≡ charges S (S .next σ e) es
   unfolding charges
   charges-still es t = rw (t, charges)

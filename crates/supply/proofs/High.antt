@@ -17,21 +17,24 @@ high-value true x y l = l refl
 high-value false x y l = omega arith
 
 module _ (S : System) (s : ℕ) where
+  -- s is one of them
   pub self-high : atLeastAsHigh S s s ≡ true
   unfolding atLeastAsHigh
   self-high = le-leb (S .level s) (S .level s) (le-refl (S .level s))
 
+  -- the sum rises with the values of the high rows
   pub high-rises : (f g : ℕ → ℕ) → ((h : ℕ) → h < S .rows → atLeastAsHigh S s h ≡ true → f h ≤ g h) → sumHigh S s f ≤ sumHigh S s g
   unfolding sumHigh
   high-rises f g l = sum-rises (S .rows) _ _ (λ h r. high-value (atLeastAsHigh S s h) (f h) (g h) (l h r))
 
-  -- one high row's value falls by one
+  -- it falls by one where one high row's value does
   pub high-falls : (f g : ℕ → ℕ) (c : ℕ) → c < S .rows → atLeastAsHigh S s c ≡ true → f c + 1 ≤ g c
       → ((h : ℕ) → h < S .rows → f h ≤ g h) → sumHigh S s f + 1 ≤ sumHigh S s g
   unfolding sumHigh
   high-falls f g c r t fall l =
       sum-falls (S .rows) _ _ 1 c r (rw t fall) (λ h u. high-value (atLeastAsHigh S s h) (f h) (g h) (λ v. l h u))
 
+  -- a high row's value is at most the sum
   pub high-at : (f : ℕ → ℕ) (h : ℕ) → h < S .rows → atLeastAsHigh S s h ≡ true → f h ≤ sumHigh S s f
   unfolding sumHigh
   high-at f h r t = rw t at (sum-at (S .rows) (λ k. cond (atLeastAsHigh S s k) (f k) 0) h r)
@@ -41,6 +44,7 @@ pub now-or-later : (S : System) → Assumed S → (σ : S .State) → S .Legal �
 now-or-later S A σ legal h r = ⊎-elim (λ q. inl (sym q)) inr (eq-or-lt-of-le (A .refill-ahead σ legal h r))
 
 module _ (S : System) (A : Assumed S) (σ : S .State) (e : S .Event) (legal : S .Legal σ) (ticks : S .tick e ≡ true) where
+  -- the row charged is charged one
   pub charged-one : (h : ℕ) → S .charged σ e ≡ h → charge S σ e h ≡ 1
   unfolding charge
   charged-one h q = rw (eq-eqb (S .charged σ e) h q)

@@ -15,7 +15,8 @@ use Rattle.supply.specs.Assumed.{Assumed, Fresh, Pressed, atLeastAsHigh,
 use Rattle.supply.proofs.High.{self-high, high-rises, high-at, now-or-later, charge-left, one-less}
 use Rattle.supply.proofs.Most.{most, Anew, empty, full, most-one, most-anew, most-tick}
 
--- within some number of ticks, inside the period of s and before its refill if s is busy, what holds s back and what the rows at least as high can be charged is done
+-- there is a number of ticks, inside the period of s and before its refill if s is busy, that is enough for what holds s back and for all that the
+-- rows at least as high can be charged in them
 pub record InTime (S : System) (σ : S .State) (s : ℕ) : Type 0 where
   pub within : ℕ
   pub ahead : 0 < within
@@ -27,6 +28,7 @@ pub record InTime (S : System) (σ : S .State) (s : ℕ) : Type 0 where
 Unpressed : (S : System) → S .State → ℕ → Type 0
 Unpressed S σ s = (h : ℕ) → h < S .rows → atLeastAsHigh S s h ≡ true → S .left σ h ≡ 0
 
+-- the two cases of every step
 pressed-or-not : (S : System) (σ : S .State) (s : ℕ) → Pressed S σ s ⊎ Unpressed S σ s
 unfolding Unpressed
 pressed-or-not S σ s = go (any (S .rows) busy) refl
@@ -59,6 +61,7 @@ module _ (S : System) (A : Assumed S) (σ : S .State) (legal : S .Legal σ) (s :
       whole (empty a) b = omega arith
       whole (full a q) b = omega arith
 
+-- so it is where a run starts
 pub in-time-fresh : (S : System) → Assumed S → (σ : S .State) → Fresh S σ → (s : ℕ) → s < S .rows → InTime S σ s
 in-time-fresh S A σ f s r = in-time-anew S A σ (f .legal) s r (λ h u v. full (f .full h u) (f .whole h u))
 

@@ -3,3 +3,4 @@ pub mod Most
 pub mod InTime
 pub mod Count
 pub mod Theorem
+pub mod Tiny

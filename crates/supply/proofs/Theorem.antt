@@ -23,7 +23,7 @@ record Later (S : System) (s : ℕ) (σ : S .State) (es : List (S .Event)) (n : 
   rest : drop n (charges S σ es) ≡ charges S state events
 
 module _ (S : System) (A : Assumed S) (s : ℕ) (r : s < S .rows) (σ : S .State) (es : List (S .Event)) where
-  -- it has one more whole period where the first run has
+  -- it has one more whole period where the run has
   one-more : (n : ℕ) (w : Later S s σ es n) → n + S .period s ≤ length (charges S σ es) → Turn S s (w .state) (w .events)
   one-more n w h =
       let same : length (charges S (w .state) (w .events)) ≡ length (charges S σ es) - n =
@@ -40,6 +40,7 @@ module _ (S : System) (A : Assumed S) (s : ℕ) (r : s < S .rows) (σ : S .State
         (drop-at (t .head) (charges S (t .state) (t .events)) (S .period s) (t .long ∙ w .start .whole));
   }
 
+  -- a run of k periods or more is at the start of a period after k of them
   Reaches : ℕ → Type 0
   Reaches k = k * S .period s ≤ length (charges S σ es) → Later S s σ es (k * S .period s)
 
@@ -53,14 +54,14 @@ module _ (S : System) (A : Assumed S) (s : ℕ) (r : s < S .rows) (σ : S .State
       let w = f (omega arith) in
       rw (suc-mul k (S .period s)) (after (k * S .period s) w (one-more (k * S .period s) w (omega arith)))
 
-  -- so a run of k periods or more is at the start of a period after k of them
   later : Start S s σ → (k : ℕ) → Reaches k
   later st zero = reaches-zero st
   later st (suc k) = reaches-next k (later st k)
 
-  complete : Start S s σ → (k : ℕ) → (k + 1) * S .period s ≤ length (charges S σ es) → count s (periodOf (S .period s) k (charges S σ es)) ≡ S .budget s
+  -- the next period then charges s its budget if the run has the whole of it
+  complete : Start S s σ → (k : ℕ) → k * S .period s + S .period s ≤ length (charges S σ es) → count s (periodOf (S .period s) k (charges S σ es)) ≡ S .budget s
   unfolding periodOf Reaches
-  complete st k h = go w (one-more (k * S .period s) w (omega arith))
+  complete st k h = go w (one-more (k * S .period s) w h)
     where
       w : Later S s σ es (k * S .period s)
       w = later st k (omega arith)
@@ -70,6 +71,7 @@ module _ (S : System) (A : Assumed S) (s : ℕ) (r : s < S .rows) (σ : S .State
           rw (w .rest, t .parts, take-at (t .head) (charges S (t .state) (t .events)) (S .period s) (t .long ∙ w .start .whole))
           (t .all-left ∙ w .start .full)
 
+  -- and no more in any case; where the run ends before the period, nothing
   unfinished : Start S s σ → (k : ℕ) → count s (periodOf (S .period s) k (charges S σ es)) ≤ S .budget s
   unfolding periodOf count Reaches
   unfinished st k = go (leb (k * S .period s) (length (charges S σ es))) refl
@@ -88,7 +90,10 @@ module _ (S : System) (A : Assumed S) (s : ℕ) (r : s < S .rows) (σ : S .State
           (omega arith)
 
 pub exact : (S : System) → Assumed S → (σ : S .State) → Fresh S σ → (es : List (S .Event)) → (s : ℕ) → s < S .rows → Exact S σ es s
-exact S A σ f es s r = record { complete = complete S A s r σ es start; unfinished = unfinished S A s r σ es start }
+exact S A σ f es s r = record {
+  complete = λ k h. complete S A s r σ es start k (omega arith);
+  unfinished = unfinished S A s r σ es start;
+}
   where
     start : Start S s σ
     start = record { legal = f .legal; in-time = in-time-fresh S A σ f s r; full = f .full s r; whole = f .whole s r }
