@@ -2,8 +2,8 @@
 use mathlib.Core.Path.{_≡_, refl, sym, ap, ap₂}
 use mathlib.Core.Logic.{_≢_, ⊎-elim}
 use mathlib.Core.Bool.{Bool, true, false, cond}
-use Prim.Native.Nat.{ℕ, zero, suc, _+_, max, _≤_, _<_}
-use native.Mathlib.Nat.{not-suc-le-zero, le-step, lt-suc-self}
+use Prim.Native.Nat.{ℕ, zero, suc, _+_, _*_, max, _≤_, _<_}
+use native.Mathlib.Nat.{not-suc-le-zero, le-of-suc-le-suc, eq-or-lt-of-le, le-of-eq, le-step, lt-suc-self}
 use native.Mathlib.Numerals.{add-one}
 use native.Mathlib.Omega.{arith}
 use lib.Dec.{leb, eqb}
@@ -81,6 +81,21 @@ sum-two n f j k hj hk ne = omega (arith, sum-at n only j hj, at-j, sum-falls n o
         go : (b : Bool) → cond b (f i) 0 ≤ f i
         go true = omega arith
         go false = omega arith
+
+-- sum: of fewer entries it is at most that of more, so that a loop's sum stays below the whole
+pub sum-prefix : (m n : ℕ) (f : ℕ → ℕ) → m ≤ n → sum m f ≤ sum n f
+unfolding sum
+sum-prefix m zero f h =
+    let z : m ≡ 0 = omega arith in
+    rw z (omega arith)
+sum-prefix m (suc n) f h =
+    ⊎-elim (λ q. le-of-eq (ap (λ (k : ℕ). sum k f) q)) (λ v. omega (arith, sum-prefix m n f (le-of-suc-le-suc v))) (eq-or-lt-of-le h)
+
+-- sum: of entries that are at most c
+pub sum-bounded : (n : ℕ) (f : ℕ → ℕ) (c : ℕ) → ((k : ℕ) → k < n → f k ≤ c) → sum n f ≤ n * c
+unfolding sum
+sum-bounded zero f c l = omega arith
+sum-bounded (suc n) f c l = omega (arith, sum-bounded n f c (λ k h. l k (le-step h)), l n (lt-suc-self n))
 
 -- greatest: the loop
 

@@ -62,6 +62,14 @@ all-false (suc n) p e = go (all n p) (p n) refl e (all-false n p)
     go true false eb q f = record { at = n; there = lt-suc-self n; fails = eb }
     go true true eb q f = absurd (true≢false q)
 
+-- and one that does not makes it false
+pub all-not : (n : ℕ) (p : ℕ → Bool) (k : ℕ) → k < n → p k ≡ false → all n p ≡ false
+all-not n p k h e = go (all n p) refl
+  where
+    go : (b : Bool) → all n p ≡ b → b ≡ false
+    go true q = absurd (true≢false (sym (all-at n p q k h) ∙ e))
+    go false q = refl
+
 pub all-agree : (n : ℕ) (p q : ℕ → Bool) → ((k : ℕ) → k < n → p k ≡ q k) → all n p ≡ all n q
 unfolding all
 all-agree zero p q f = refl
@@ -107,6 +115,12 @@ any-false n p e k h = go (p k) refl
     go : (b : Bool) → p k ≡ b → b ≡ false
     go true q = absurd (true≢false (sym (any-of n p k h q) ∙ e))
     go false q = refl
+
+-- and where no number passes it is false
+pub any-absent : (n : ℕ) (p : ℕ → Bool) → ((k : ℕ) → k < n → p k ≡ false) → any n p ≡ false
+unfolding any
+any-absent zero p f = refl
+any-absent (suc n) p f = rw (any-absent n p (λ k h. f k (le-step h)), f n (lt-suc-self n))
 
 pub any-agree : (n : ℕ) (p q : ℕ → Bool) → ((k : ℕ) → k < n → p k ≡ q k) → any n p ≡ any n q
 unfolding any
