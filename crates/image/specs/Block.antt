@@ -1,11 +1,14 @@
 -- "Calls from C": the plan block, 1,108 bytes, both ways, and when a block is refused.
-use mathlib.Core.Bool.{Bool, true, false, not, _&&_}
+use mathlib.Core.Path.{_≡_}
+use mathlib.Core.Bool.{Bool, true, false, _&&_}
 use mathlib.Core.List.{List, [], _∷_, _++_}
 use Prim.Native.Nat.{ℕ, _+_, _*_}
 use lib.Dec.{eqb}
 use lib.ListN.{length}
 use Rattle.below.specs.Listed.{listed}
 use Rattle.text.specs.Bytes.{same}
+use Rattle.reader.specs.Numbers.{isAccepted}
+use Rattle.reader.specs.Reading.{reading}
 use Rattle.plan.specs.declared.Plan.{Plan}
 use Rattle.plan.specs.Limits.{mostSubsystems, mostTasks, mostResources}
 use Rattle.plan.specs.Plan.{period, budget}
@@ -56,6 +59,12 @@ planOf b =
 -- the block of an accepted plan
 unfoldable pub isBlock : List ℕ → Bool
 isBlock b = accepted (planOf b) && same (blockOf (planOf b)) b
+
+-- "31 exactly when": some accepted plan text has the block
+pub record HasText (b : List ℕ) : Type 0 where
+  pub text : List ℕ
+  pub reads : isAccepted (reading text .verdict) ≡ true
+  pub writes : blockOf (reading text .plan) ≡ b
 
 -- 34: wrong length; 31: the block of no accepted plan; else 0
 unfoldable pub blockNumber : List ℕ → ℕ

@@ -3,3 +3,5 @@ pub mod Line
 pub mod Conditions
 pub mod Reading
 pub mod Margin
+pub mod Listed
+pub mod TextOf

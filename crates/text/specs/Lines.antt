@@ -2,7 +2,7 @@
 use mathlib.Core.Bool.{Bool, true, false}
 use mathlib.Core.List.{List, [], _∷_}
 use mathlib.Core.Option.{Option, none, some, Option·map}
-use Prim.Native.Nat.{ℕ}
+use Prim.Native.Nat.{ℕ, zero, suc}
 use lib.Dec.{eqb}
 
 abbrev pub tab : ℕ
@@ -10,6 +10,11 @@ tab = 9
 
 abbrev pub lineFeed : ℕ
 lineFeed = 10
+
+-- how many bytes stand before the first b; all of them if there is none
+unfoldable pub until : ℕ → List ℕ → ℕ
+until b [] = zero
+until b (x ∷ xs) = elim (eqb x b) [ true ↦ zero | false ↦ suc (until b xs) ]
 
 -- a byte in front of the first piece, or as the only piece
 unfoldable pub onto : ℕ → List (List ℕ) → List (List ℕ)

@@ -5,6 +5,8 @@ use mathlib.Core.Option.{Option, none, some, Option·map}
 use Prim.Native.Nat.{ℕ, zero, suc, _+_, _-_, _*_, _/_, _%_}
 use lib.Dec.{leb, ltb, eqb}
 use lib.ListN.{length, getD}
+use Rattle.text.specs.declared.Number.{Number}
+use Rattle.text.specs.declared.Number.the-variants.{Written, Nothing}
 
 -- a digit is one of the bytes 48 to 57
 unfoldable pub isDigit : ℕ → Bool
@@ -24,13 +26,13 @@ worth [] n = n
 worth (b ∷ bs) n = worth bs (10 * n + (b - 48))
 
 -- the number that a field writes, if it writes one
-unfoldable pub number : List ℕ → Option ℕ
-number f = elim (isNumber f) [ true ↦ some (worth f 0) | false ↦ none ]
+unfoldable pub number : List ℕ → Number
+number f = elim (isNumber f) [ true ↦ Written (worth f 0) | false ↦ Nothing ]
 
 -- the numbers that some fields write, if each writes one
 unfoldable pub numbers : List (List ℕ) → Option (List ℕ)
 numbers [] = some []
-numbers (f ∷ fs) = elim (number f) [ none ↦ none | some n ↦ Option·map (λ ns. n ∷ ns) (numbers fs) ]
+numbers (f ∷ fs) = elim (number f) [ Nothing ↦ none | Written n ↦ Option·map (λ ns. n ∷ ns) (numbers fs) ]
 
 -- what is made of just as many numbers as wanted, or else the other
 module _ {A : Type 0} (other : A) where

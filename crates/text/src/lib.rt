@@ -1,1 +1,5 @@
-// Bytes to numbers and back, fields and lines: definitions in specs/.
+// What a field says.
+pub enum Number {
+    Written(u32),
+    Nothing,
+}
