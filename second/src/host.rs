@@ -4,9 +4,10 @@
 //! an event that is refused keeps the state and still says who is chosen and running.
 
 use crate::admission;
-use crate::block::{from_block, to_block, BLOCK_BYTES, WRONG_LENGTH};
+use crate::block::{from_block, to_block, BLOCK_BYTES, NO_PLAN, WRONG_LENGTH};
 use crate::event::{Event, Outcome};
-use crate::image::{from_image, to_image, IMAGE_BYTES};
+use crate::image::{from_image, to_image, IMAGE_BYTES, NO_STATE};
+use crate::legal::legal;
 use crate::line;
 use crate::plan::Plan;
 use crate::read::{read, Refusal};
@@ -116,6 +117,20 @@ pub fn c_line(
     *fill += printed.len();
     image.copy_from_slice(&to_image(&state));
     outcome.answer.number()
+}
+
+/// The step on a plan and a state lent as records: 31 for a plan that is not admitted, then 32 for a state that is not
+/// legal, both kept.
+///
+/// A plan in hand meets every other condition already, by the way plans are made.
+pub fn record_step(plan: &Plan, state: &mut State, event: Event) -> Result<Outcome, u32> {
+    if admission::first_negative(plan).is_some() {
+        return Err(NO_PLAN);
+    }
+    if !legal(plan, state) {
+        return Err(NO_STATE);
+    }
+    Ok(step(plan, state, event))
 }
 
 /// Both lengths are judged before what is in either.

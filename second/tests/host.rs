@@ -3,12 +3,13 @@
 mod support;
 
 use second::block::to_block;
-use second::host::{c_fresh, c_line, c_margin, c_read, c_step};
+use second::event::Event;
+use second::host::{c_fresh, c_line, c_margin, c_read, c_step, record_step};
 use second::image::to_image;
 use second::line;
-use second::read::read;
+use second::read::{read, read_unadmitted};
 use second::sample;
-use second::state::State;
+use second::state::{Job, State};
 use second::step::step;
 use support::events::{event, Mood};
 use support::plans::plan;
@@ -171,15 +172,42 @@ fn lines_that_are_no_events() {
         b"unlock\t0 0\n",
     ];
     for line in bad {
-        assert_eq!(line::event(line), second::event::Event::Unknown, "{line:?}");
+        assert_eq!(line::event(line), Event::Unknown, "{line:?}");
     }
     assert_eq!(
         line::event(b"unlock\t99999\t0\n"),
-        second::event::Event::Unlock {
+        Event::Unlock {
             task: 99_999,
             resource: 0
         }
     );
+}
+
+#[test]
+fn records_are_judged_like_bytes() {
+    let plan = read(sample::PLAN.as_bytes()).unwrap();
+    let fresh = State::fresh(&plan);
+    let full = read_unadmitted(b"S\t5\t3\nS\t9\t9\n").unwrap();
+    let mut state = State::fresh(&full);
+    assert_eq!(record_step(&full, &mut state, Event::Tick), Err(31));
+    assert_eq!(state, State::fresh(&full));
+
+    let mut strange = fresh.clone();
+    strange.jobs[1] = Job::Started { held: vec![99] };
+    let mut few = fresh.clone();
+    few.jobs.pop();
+    let mut late = fresh.clone();
+    late.supplies[0].refill = 0;
+    for illegal in [strange, few, late] {
+        let mut state = illegal.clone();
+        assert_eq!(record_step(&full, &mut state, Event::Tick), Err(31));
+        assert_eq!(record_step(&plan, &mut state, Event::Unknown), Err(32));
+        assert_eq!(state, illegal);
+    }
+    let (mut one, mut other) = (fresh.clone(), fresh);
+    let outcome = record_step(&plan, &mut one, Event::Tick);
+    assert_eq!(outcome, Ok(step(&plan, &mut other, Event::Tick)));
+    assert_eq!(one, other);
 }
 
 /// Along random runs the call over bytes does what the library does.
@@ -212,8 +240,7 @@ fn step_over_bytes_is_the_step() {
 }
 
 /// Fields that a kind does not use are given numbers that no row has.
-fn numbers(event: second::event::Event) -> (u32, u32, u32) {
-    use second::event::Event;
+fn numbers(event: Event) -> (u32, u32, u32) {
     match event {
         Event::Release { task } => (0, task, u32::MAX),
         Event::Lock { task, resource } => (1, task, resource),

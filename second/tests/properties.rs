@@ -4,103 +4,25 @@ mod support;
 
 use second::admission::{blocking, demand, first_negative, margin, margin_of_row};
 use second::block::{from_block, to_block};
-use second::event::{Answer, Event, Outcome};
+use second::event::Event;
 use second::image::{from_image, to_image};
 use second::legal::legal;
-use second::plan::Plan;
 use second::read::read;
 use second::state::State;
-use second::step::step;
 use std::collections::{BTreeMap, BTreeSet};
 use support::events::{event, Mood};
+use support::laws::{holders, judged_step, Ledger};
 use support::plans::{plan, Sketch};
 use support::random::{each_case, Random};
 use support::states::wander;
-
-/// One step with everything that has to hold around any single step.
-fn judged_step(plan: &Plan, state: &mut State, event: Event) -> Outcome {
-    let before = state.clone();
-    let outcome = step(plan, state, event);
-    assert!(
-        legal(plan, state),
-        "{event:?} on\n{before:?}\nleft\n{state:?}"
-    );
-    if outcome.answer.is_refusal() {
-        assert_eq!(*state, before, "refused {event:?} altered the state");
-    }
-    if let (Event::Lock { resource, .. }, Answer::Done | Answer::WaitsForBudget) =
-        (event, outcome.answer)
-    {
-        let holder = holders(&before).get(&(resource as usize)).copied();
-        assert_eq!(holder, None, "{event:?} found it held in\n{before:?}");
-    }
-    assert_eq!(
-        outcome.ended.is_empty(),
-        outcome.answer != Answer::SectionShut
-    );
-    holders(state);
-    outcome
-}
-
-/// Who holds each resource; fails when two do.
-fn holders(state: &State) -> BTreeMap<usize, usize> {
-    let mut holders = BTreeMap::new();
-    for (task, job) in state.jobs.iter().enumerate() {
-        for &resource in job.held() {
-            let other = holders.insert(resource, task);
-            assert_eq!(
-                other, None,
-                "resource {resource} is held twice in\n{state:?}"
-            );
-        }
-    }
-    holders
-}
-
-/// Charges counted from the answers of ticks alone, never from a state.
-struct Ledger {
-    charged: Vec<u16>,
-    ticks: Vec<u16>,
-}
-
-impl Ledger {
-    fn new(plan: &Plan) -> Ledger {
-        let rows = plan.subsystems().len();
-        Ledger {
-            charged: vec![0; rows],
-            ticks: vec![0; rows],
-        }
-    }
-
-    fn tick(&mut self, plan: &Plan, charged: Option<usize>) {
-        if let Some(row) = charged {
-            self.charged[row] += 1;
-        }
-        for (row, subsystem) in plan.subsystems().iter().enumerate() {
-            assert!(
-                self.charged[row] <= subsystem.budget,
-                "subsystem {row} was charged more than its budget in one period"
-            );
-            self.ticks[row] += 1;
-            if self.ticks[row] == subsystem.period {
-                assert_eq!(
-                    self.charged[row], subsystem.budget,
-                    "charges of subsystem {row} in a complete period"
-                );
-                self.charged[row] = 0;
-                self.ticks[row] = 0;
-            }
-        }
-    }
-}
 
 /// Runs from the fresh state, and at the end that every answer has been given.
 #[test]
 fn runs_keep_every_promise() {
     let mut answers = BTreeMap::new();
-    let mut periods = 0_u64;
+    let mut periods = 0;
     let mut tight = BTreeSet::new();
-    each_case(6_000, |random| {
+    each_case(10_000, |random| {
         let (sketch, plan) = plan(random);
         for row in 0..plan.subsystems().len() {
             tight.insert(sketch.margin(row).min(2));
@@ -118,7 +40,7 @@ fn runs_keep_every_promise() {
             *answers.entry(outcome.answer.number()).or_insert(0_u64) += 1;
             if event == Event::Tick {
                 ledger.tick(&plan, outcome.subsystem);
-                periods += ledger.ticks.iter().filter(|&&ticks| ticks == 0).count() as u64;
+                periods += ledger.just_completed();
             }
         }
         let image = to_image(&state);

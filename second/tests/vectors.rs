@@ -40,7 +40,10 @@ fn rows(name: &str, columns: usize, expected: usize) -> Vec<Vec<String>> {
 }
 
 fn bytes(hex: &str) -> Vec<u8> {
-    assert!(hex.len() % 2 == 0, "an odd number of hexadecimal digits");
+    assert!(
+        hex.len().is_multiple_of(2),
+        "an odd number of hexadecimal digits"
+    );
     (0..hex.len() / 2)
         .map(|place| u8::from_str_radix(&hex[2 * place..2 * place + 2], 16).expect("hexadecimal"))
         .collect()

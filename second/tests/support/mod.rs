@@ -2,6 +2,7 @@
 #![allow(dead_code)] // Each test file uses its own part of it.
 
 pub mod events;
+pub mod laws;
 pub mod plans;
 pub mod random;
 pub mod states;

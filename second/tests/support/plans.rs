@@ -153,7 +153,7 @@ fn outline(random: &mut Random) -> Sketch {
     for task in 0..task_count {
         let owner = sketch.owners[task];
         let budget = sketch.subsystems[owner].1;
-        for resource in 0..resource_count {
+        for (resource, &home) in homes.iter().enumerate() {
             if !random.percent(uses_in_percent) {
                 continue;
             }
@@ -164,7 +164,7 @@ fn outline(random: &mut Random) -> Sketch {
                     budget.min(3)
                 };
                 sketch.uses.push((task, resource, random.within(1..=most)));
-            } else if homes[resource] == owner {
+            } else if home == owner {
                 sketch.uses.push((task, resource, 0));
             }
         }
