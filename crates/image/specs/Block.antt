@@ -15,6 +15,7 @@ use Rattle.plan.specs.Plan.{period, budget}
 use Rattle.plan.specs.Accepted.{accepted}
 use Rattle.image.specs.Words.{word, words, byteAt, wordAt}
 
+-- the length of a plan block
 abbrev pub blockBytes : ℕ
 blockBytes = 1108
 
@@ -22,12 +23,15 @@ blockBytes = 1108
 abbrev pub subsystemsAt : ℕ
 subsystemsAt = 4
 
+-- 32 owners, a byte each
 abbrev pub ownersAt : ℕ
 ownersAt = 36
 
+-- 16 kinds, a byte each
 abbrev pub kindsAt : ℕ
 kindsAt = 68
 
+-- 32 times 16 lengths by task, 16 bits each
 abbrev pub lengthsAt : ℕ
 lengthsAt = 84
 
@@ -37,6 +41,7 @@ subsystemWords [] qs = []
 subsystemWords (p ∷ ps) [] = []
 subsystemWords (p ∷ ps) (q ∷ qs) = word p ++ (word q ++ subsystemWords ps qs)
 
+-- the block of a plan: counts of S, T, R and a 0, then its sections
 unfoldable pub blockOf : Plan → List ℕ
 blockOf p =
     p .subsystems ∷ p .tasks ∷ p .resources ∷ 0

@@ -15,6 +15,7 @@ use Rattle.state.specs.State.{mostHeld, taskAt, leftOf, refillOf, usedOf}
 use Rattle.state.specs.Legal.{legal}
 use Rattle.image.specs.Words.{word, byteAt, wordAt}
 
+-- the length of a state image
 abbrev pub imageBytes : ℕ
 imageBytes = 320
 
@@ -35,6 +36,7 @@ unfoldable pub joined : List (List ℕ) → List ℕ
 joined [] = []
 joined (l ∷ ls) = l ++ joined ls
 
+-- the image of a state: its subsystems, then its tasks
 unfoldable pub imageOf : State → List ℕ
 imageOf s = joined (listed mostSubsystems (subsystemBytes s)) ++ joined (listed mostTasks (λ k. taskBytes (taskAt s k)))
 

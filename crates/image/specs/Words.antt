@@ -7,13 +7,15 @@ use lib.ListN.{getD}
 unfoldable pub word : ℕ → List ℕ
 word n = n % 256 ∷ n / 256 ∷ []
 
+-- some numbers one behind the other
 unfoldable pub words : List ℕ → List ℕ
 words [] = []
 words (n ∷ ns) = word n ++ words ns
 
--- the byte and the 16-bit number that stand at a place
+-- the byte that stands at a place
 unfoldable pub byteAt : List ℕ → ℕ → ℕ
 byteAt b at = getD b at 0
 
+-- the 16-bit number that stands at a place
 unfoldable pub wordAt : List ℕ → ℕ → ℕ
 wordAt b at = byteAt b at + 256 * byteAt b (at + 1)

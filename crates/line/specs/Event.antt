@@ -10,6 +10,7 @@ use Rattle.step.specs.Refusals.{release, lock, unlock, end, tick}
 use Rattle.line.specs.declared.Event.{Event}
 use Rattle.line.specs.declared.Event.the-variants.{Known, Malformed}
 
+-- the kind of the name, with just the rows that it uses; other rows are 0 and not read
 unfoldable pub ofName : List ℕ → List ℕ → Event
 ofName name ns =
     elim (same name (bytes "release")) [
@@ -29,6 +30,7 @@ ofName name ns =
       ]
     ]
 
+-- the first field is the name, the others are numbers
 unfoldable pub ofFields : List (List ℕ) → Event
 ofFields [] = Malformed
 ofFields (name ∷ fs) = elim (numbers fs) [ none ↦ Malformed | some ns ↦ ofName name ns ]

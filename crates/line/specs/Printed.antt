@@ -9,6 +9,7 @@ use Rattle.text.specs.Numbers.{decimal}
 use Rattle.plan.specs.Limits.{mostTasks, noRow}
 use Rattle.step.specs.declared.Outcome.{Outcome}
 
+-- fields of a printed line are parted by one space
 abbrev pub space : ℕ
 space = 32
 

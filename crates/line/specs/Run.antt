@@ -26,6 +26,7 @@ unfoldable pub eventGives : Plan → State → Event → Outcome
 eventGives p s (Known kind k r) = stepped p s kind k r
 eventGives p s Malformed = answered p s 11
 
+-- what an event line gives
 unfoldable pub lineGives : Plan → State → List ℕ → Outcome
 lineGives p s l = eventGives p s (eventOf l)
 
@@ -43,6 +44,7 @@ printedFrom n (o ∷ os) = printed n o ++ printedFrom (n + 1) os
 unfoldable pub printedRun : Plan → List ℕ → List ℕ
 printedRun p events = printedFrom 1 (outcomes p (fresh p) (take mostLines (lines events)))
 
+-- a refused plan prints its refusal alone; an accepted one runs from its fresh state
 unfoldable pub run : List ℕ → List ℕ → List ℕ
 run plan events =
     let r = reading plan in

@@ -14,5 +14,6 @@ localCeiling p r = foremost p (λ t. declares p t r)
 unfoldable pub globalCeiling : Plan → ℕ → ℕ
 globalCeiling p r = first (p .subsystems) (λ l. any (p .tasks) (λ t. eqb (level p (owner p t)) l && declares p t r))
 
+-- the ceiling of a resource, local or global
 unfoldable pub ceiling : Plan → ℕ → ℕ
 ceiling p r = cond (isGlobal p r) (globalCeiling p r) (localCeiling p r)

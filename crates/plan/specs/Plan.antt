@@ -7,10 +7,11 @@ use Rattle.below.specs.Below.{first}
 use Rattle.plan.specs.declared.Plan.{Plan}
 use Rattle.plan.specs.Limits.{mostResources, undeclared}
 
--- S: period and budget of a subsystem
+-- S: the period of a subsystem
 unfoldable pub period : Plan → ℕ → ℕ
 period p s = getD (p .periods) s 0
 
+-- S: the budget of a subsystem
 unfoldable pub budget : Plan → ℕ → ℕ
 budget p s = getD (p .budgets) s 0
 

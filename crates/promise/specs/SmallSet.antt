@@ -19,10 +19,12 @@ planWith budget =
     bytes "S\t10\t4\nS\t20\t"
     ++ (bytes budget ++ bytes "\nT\t0\nT\t0\nT\t1\nR\tG\nR\tL\nU\t0\t0\t2\nU\t0\t1\t0\nU\t1\t1\t0\nU\t2\t0\t3\n")
 
+-- the events of the run of plan P
 unfoldable pub events : List ℕ
 events =
     bytes "release\t2\ntick\nrelease\t1\nlock\t1\t1\nrelease\t0\ntick\ntick\nunlock\t1\t1\nlock\t0\t0\ntick\nlock\t2\t0\ntick\ntick\ntick\ntick\nend\t2\ntick\ntick\ntick\n"
 
+-- what is said of plan P, or of a plan text
 pub data Case : Type 0 where
   -- an event of the run of plan P, by its number, prints this line
   prints : ℕ → String → Case
@@ -31,15 +33,18 @@ pub data Case : Type 0 where
   -- this plan text is refused with these two numbers
   isRefused : String → ℕ → ℕ → Case
 
+-- what each case says of the definitions
 abbrev pub Holds : Case → Type 0
 Holds (prints n line) = getD (lines (run (planWith "6") events)) (n - 1) [] ≡ bytes line
 Holds (hasMargin budget m) = asked (planWith budget) 1 ≡ Margin m
 Holds (isRefused text n b) = (number (reading (bytes text) .verdict) ≡ n) × (beside (reading (bytes text) .verdict) ≡ b)
 
+-- each case of a table holds
 abbrev pub AllHold : List Case → Type 0
 AllHold [] = Unit
 AllHold (c ∷ cs) = Holds c × AllHold cs
 
+-- the table
 abbrev pub smallSet : List Case
 smallSet =
     prints 5 "5 0 0 1 -\n"

@@ -18,11 +18,13 @@ ofNumbers f fs = elim (numbers fs) [ none ↦ Malformed | some ns ↦ f ns ]
 unfoldable pub ofKind : List ℕ → Line
 ofKind k = elim (same k (bytes "L")) [ true ↦ Resource 0 | false ↦ elim (same k (bytes "G")) [ true ↦ Resource 1 | false ↦ Malformed ] ]
 
+-- R has one field
 unfoldable pub ofKindField : List (List ℕ) → Line
 ofKindField [] = Malformed
 ofKindField (k ∷ []) = ofKind k
 ofKindField (k ∷ f ∷ fs) = Malformed
 
+-- the letter, then as many fields as its line has
 unfoldable pub ofFields : List (List ℕ) → Line
 ofFields [] = Malformed
 ofFields (k ∷ fs) =

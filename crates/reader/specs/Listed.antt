@@ -19,6 +19,7 @@ use Rattle.reader.specs.Reading.{mostBytes, emptyPlan, withLine}
 unfoldable pub linesOf : List ℕ → List Line
 linesOf text = map lineOf (lines text)
 
+-- the line at a place, from 0
 unfoldable pub lineAt : List Line → ℕ → Line
 lineAt ls i = getD ls i Malformed
 
@@ -33,7 +34,7 @@ rowOf kind [] n = Malformed
 rowOf kind (l ∷ ls) zero = elim (eqb (kindOf l) kind) [ true ↦ l | false ↦ rowOf kind ls zero ]
 rowOf kind (l ∷ ls) (suc n) = elim (eqb (kindOf l) kind) [ true ↦ rowOf kind ls n | false ↦ rowOf kind ls (suc n) ]
 
--- what the S, T or R line of a row says
+-- what the S line of a row says
 unfoldable pub budgetSaid : Line → ℕ
 budgetSaid (Subsystem period budget) = budget
 budgetSaid (Task subsystem) = 0
@@ -41,6 +42,7 @@ budgetSaid (Resource kind) = 0
 budgetSaid (Uses task resource length) = 0
 budgetSaid Malformed = 0
 
+-- what the T line of a row says
 unfoldable pub ownerSaid : Line → ℕ
 ownerSaid (Subsystem period budget) = 0
 ownerSaid (Task subsystem) = subsystem
@@ -52,9 +54,11 @@ ownerSaid Malformed = 0
 abbrev pub Global : List Line → ℕ → Type 0
 Global above r = rowOf 2 above r ≡ Resource 1
 
+-- the subsystem of task row t by the lines above
 abbrev pub ownerIn : List Line → ℕ → ℕ
 ownerIn above t = ownerSaid (rowOf 1 above t)
 
+-- the budget of subsystem row s by the lines above
 abbrev pub budgetIn : List Line → ℕ → ℕ
 budgetIn above s = budgetSaid (rowOf 0 above s)
 
@@ -137,6 +141,7 @@ unfoldable pub planAfter : Plan → List Line → Plan
 planAfter p [] = p
 planAfter p (l ∷ ls) = planAfter (withLine p l) ls
 
+-- the plan of a text
 unfoldable pub planIn : List ℕ → Plan
 planIn text = planAfter emptyPlan (linesOf text)
 

@@ -14,6 +14,7 @@ use Rattle.reader.specs.Reading.{reading}
 unfoldable pub hasMargins : Reading → Bool
 hasMargins r = eqb (number (r .verdict)) 0 || eqb (number (r .verdict)) 30
 
+-- the margin of a row that the plan has; 24 and 0 for one that it lacks; else its refusal
 unfoldable pub askedOf : Reading → ℕ → Asked
 askedOf r row =
     elim (hasMargins r) [
@@ -21,5 +22,6 @@ askedOf r row =
       | false ↦ Refused (r .verdict)
     ]
 
+-- what asking a plan text for the margin of a row answers
 unfoldable pub asked : List ℕ → ℕ → Asked
 asked text row = askedOf (reading text) row

@@ -8,6 +8,7 @@ use Rattle.reader.specs.declared.Verdict.the-variants.{Accepted, TooLong
 use Rattle.reader.specs.declared.Asked.{Asked}
 use Rattle.reader.specs.declared.Asked.the-variants.{Margin, NoRow, Refused}
 
+-- the number of a verdict
 abbrev pub number : Verdict → ℕ
 number Accepted = 0
 number TooLong = 20
@@ -22,6 +23,7 @@ number (AboveBudget line) = 28
 number NoSubsystem = 29
 number (NegativeMargin row) = 30
 
+-- the number returned beside it: a line, a row, or 0
 abbrev pub beside : Verdict → ℕ
 beside Accepted = 0
 beside TooLong = 0
@@ -46,6 +48,7 @@ askedNumber (Margin m) = 0
 askedNumber NoRow = 24
 askedNumber (Refused v) = number v
 
+-- the margin, or the number beside
 abbrev pub askedValue : Asked → ℤ
 askedValue (Margin m) = m
 askedValue NoRow = pos 0

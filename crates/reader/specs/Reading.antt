@@ -60,6 +60,7 @@ unfoldable pub opened : ℕ → ℕ → List ℕ → List ℕ
 opened zero r ls = ls
 opened (suc t) r ls = set (opened t r ls) (place t r) undeclared
 
+-- S: one subsystem more
 unfoldable pub withSubsystem : Plan → ℕ → ℕ → Plan
 withSubsystem p period budget =
     record {
@@ -73,6 +74,7 @@ withSubsystem p period budget =
       lengths = p .lengths;
     }
 
+-- T: one task more, that uses nothing yet
 unfoldable pub withTask : Plan → ℕ → Plan
 withTask p subsystem =
     record {
@@ -86,6 +88,7 @@ withTask p subsystem =
       lengths = p .lengths;
     }
 
+-- R: one resource more, declared by no task yet
 unfoldable pub withResource : Plan → ℕ → Plan
 withResource p kind =
     record {
@@ -99,6 +102,7 @@ withResource p kind =
       lengths = opened (p .tasks) (p .resources) (p .lengths);
     }
 
+-- U: the task declares the resource with a length
 unfoldable pub withUse : Plan → ℕ → ℕ → ℕ → Plan
 withUse p task resource length =
     record {
@@ -120,6 +124,7 @@ withLine p (Resource kind) = withResource p kind
 withLine p (Uses task resource length) = withUse p task resource length
 withLine p Malformed = p
 
+-- a refusal comes with the plan of no line
 unfoldable pub refused : Verdict → Reading
 refused v = record { verdict = v; plan = emptyPlan }
 

@@ -19,15 +19,19 @@ unfoldable pub texts : ℕ → (ℕ → List ℕ) → List ℕ
 texts zero f = []
 texts (suc n) f = texts n f ++ f n
 
+-- the S line of a row
 unfoldable pub subsystemText : Plan → ℕ → List ℕ
 subsystemText p s = tabbed (bytes "S" ∷ decimal (period p s) ∷ decimal (budget p s) ∷ [])
 
+-- the T line of a row
 unfoldable pub taskText : Plan → ℕ → List ℕ
 taskText p t = tabbed (bytes "T" ∷ decimal (owner p t) ∷ [])
 
+-- L or G
 unfoldable pub kindText : Plan → ℕ → List ℕ
 kindText p r = elim (isGlobal p r) [ true ↦ bytes "G" | false ↦ bytes "L" ]
 
+-- the R line of a row
 unfoldable pub resourceText : Plan → ℕ → List ℕ
 resourceText p r = tabbed (bytes "R" ∷ kindText p r ∷ [])
 
@@ -35,6 +39,7 @@ resourceText p r = tabbed (bytes "R" ∷ kindText p r ∷ [])
 unfoldable pub useText : Plan → ℕ → ℕ → List ℕ
 useText p t r = elim (declares p t r) [ true ↦ tabbed (bytes "U" ∷ decimal t ∷ decimal r ∷ decimal (lengthOf p t r) ∷ []) | false ↦ [] ]
 
+-- all lines of a plan
 unfoldable pub textOf : Plan → List ℕ
 textOf p =
     texts (p .subsystems) (subsystemText p)

@@ -8,6 +8,7 @@ use Rattle.plan.specs.Plan.{period, budget}
 use Rattle.state.specs.declared.State.{State}
 use Rattle.state.specs.State.{idleTask}
 
+-- the state that a run starts in
 unfoldable pub fresh : Plan → State
 fresh p =
     record {

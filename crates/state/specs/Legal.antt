@@ -92,9 +92,11 @@ sectionsLegal p s j k =
     implies (inSection p (taskAt s j) && inSection p (taskAt s k) && not (eqb (owner p j) (owner p k)))
     (belowSection p s j k || belowSection p s k j)
 
+-- the conditions of a subsystem, present or absent
 unfoldable pub subsystemLegal : Plan → State → ℕ → Bool
 subsystemLegal p s c = implies (ltb c (p .subsystems)) (countsLegal p s c && unusedLegal p s c) && implies (leb (p .subsystems) c) (absentSubsystem s c)
 
+-- the conditions of a task, present or absent
 unfoldable pub taskLegal : Plan → State → ℕ → Bool
 taskLegal p s k =
     implies (ltb k (p .tasks))
@@ -108,5 +110,6 @@ taskLegal p s k =
     && all (p .tasks) (sectionsLegal p s k))
     && implies (leb (p .tasks) k) (absentTask (taskAt s k))
 
+-- a state is legal for a plan
 unfoldable pub legal : Plan → State → Bool
 legal p s = all mostSubsystems (subsystemLegal p s) && all mostTasks (taskLegal p s)

@@ -20,6 +20,7 @@ mostHeld = 4
 unfoldable pub idleTask : Task
 idleTask = record { condition = 0; waits = noRow; count = 0; held = replicate mostHeld noRow }
 
+-- task row k
 unfoldable pub taskAt : State → ℕ → Task
 taskAt s k = getD (s .tasks) k idleTask
 
@@ -27,9 +28,11 @@ taskAt s k = getD (s .tasks) k idleTask
 unfoldable pub leftOf : State → ℕ → BudgetLeft
 leftOf s c = getD (s .left) c (record { 0 = 0 })
 
+-- ticks to the next refill
 unfoldable pub refillOf : State → ℕ → ℕ
 refillOf s c = getD (s .refill) c 0
 
+-- ticks used of the global section
 unfoldable pub usedOf : State → ℕ → ℕ
 usedOf s c = getD (s .used) c 0
 
@@ -37,15 +40,19 @@ usedOf s c = getD (s .used) c 0
 unfoldable pub hasBudget : State → ℕ → Bool
 hasBudget s c = ltb 0 (leftOf s c .0)
 
+-- condition 0: idle
 unfoldable pub isIdle : Task → Bool
 isIdle t = eqb (t .condition) 0
 
+-- condition 1: ready
 unfoldable pub isReady : Task → Bool
 isReady t = eqb (t .condition) 1
 
+-- condition 2: started
 unfoldable pub isStarted : Task → Bool
 isStarted t = eqb (t .condition) 2
 
+-- condition 3: waiting
 unfoldable pub isWaiting : Task → Bool
 isWaiting t = eqb (t .condition) 3
 
@@ -57,6 +64,7 @@ isActive t = isStarted t || isWaiting t
 unfoldable pub heldAt : Task → ℕ → ℕ
 heldAt t i = getD (t .held) i noRow
 
+-- resource r is among those it holds
 unfoldable pub holds : Task → ℕ → Bool
 holds t r = any (t .count) (λ i. eqb (heldAt t i) r)
 

@@ -22,6 +22,7 @@ released s k = withTask s k (readied (taskAt s k))
 unfoldable pub lengthFitsBudget : Plan → State → ℕ → ℕ → Bool
 lengthFitsBudget p s k r = leb (lengthOf p k r) (leftOf s (owner p k) .0)
 
+-- task k takes resource r
 unfoldable pub withTaken : State → ℕ → ℕ → State
 withTaken s k r = withTask s k (taking (taskAt s k) r)
 

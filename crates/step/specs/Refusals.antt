@@ -10,19 +10,23 @@ use Rattle.state.specs.declared.State.{State}
 use Rattle.state.specs.State.{mostHeld, taskAt, isIdle, holds, lastHeld, inSection}
 use Rattle.choice.specs.Choice.{running}
 
--- kinds 0 to 4: release, lock, unlock, end, tick
+-- kinds 0 to 4 are release, lock, unlock, end, tick
 abbrev pub release : ℕ
 release = 0
 
+-- kind 1
 abbrev pub lock : ℕ
 lock = 1
 
+-- kind 2
 abbrev pub unlock : ℕ
 unlock = 2
 
+-- kind 3
 abbrev pub end : ℕ
 end = 3
 
+-- kind 4
 abbrev pub tick : ℕ
 tick = 4
 
@@ -85,6 +89,7 @@ tests p s kind k r =
     ∷ fifthHeld s k
     ∷ []
 
+-- refusal n applies
 unfoldable pub refuses : Plan → State → ℕ → ℕ → ℕ → ℕ → Bool
 refuses p s kind k r n = getD (tests p s kind k r) (n - 2) false
 

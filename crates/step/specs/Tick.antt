@@ -28,6 +28,7 @@ unfoldable pub shutTurns : ℕ → Plan → Shut → Shut
 shutTurns zero p x = x
 shutTurns (suc n) p x = elim (isSpent p (x .state)) [ true ↦ shutTurns n p (shutOne p x (chosenTask p (x .state))) | false ↦ x ]
 
+-- (a) as many turns as there are subsystems are enough
 unfoldable pub shutSpent : Plan → State → Shut
 shutSpent p s = shutTurns (p .subsystems) p (record { state = s; ended = 0 })
 
@@ -81,8 +82,10 @@ unfoldable pub tickIdle : Plan → Shut → Outcome
 tickIdle p x =
     record { answer = tickAnswer (x .ended); subsystem = noRow; task = noRow; ended = x .ended; state = refilled p (x .state) }
 
+-- what follows (a)
 unfoldable pub tickAfter : Plan → Shut → Outcome
 tickAfter p x = elim (eqb (chosen p (x .state)) noRow) [ true ↦ tickIdle p x | false ↦ tickIn p x (chosen p (x .state)) ]
 
+-- a tick
 unfoldable pub ticked : Plan → State → Outcome
 ticked p s = tickAfter p (shutSpent p s)

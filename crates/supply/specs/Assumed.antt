@@ -26,6 +26,7 @@ pub record Pressed (S : System) (σ : S .State) (s : ℕ) : Type 0 where
   pub high : atLeastAsHigh S s row ≡ true
   pub busy : 0 < S .left σ row
 
+-- the assumptions, numbered as in the argument
 pub record Assumed (S : System) : Type 0 where
   -- a legal state stays legal
   pub legal-next : (σ : S .State) (e : S .Event) → S .Legal σ → S .Legal (S .next σ e)

@@ -3,6 +3,7 @@
 use mathlib.Core.Bool.{Bool}
 use Prim.Native.Nat.{ℕ}
 
+-- a system of rows under events
 pub record System : Type 1 where
   pub State : Type 0
   pub Event : Type 0

@@ -5,9 +5,11 @@ use mathlib.Core.Option.{Option, none, some, Option·map}
 use Prim.Native.Nat.{ℕ, zero, suc}
 use lib.Dec.{eqb}
 
+-- what parts fields
 abbrev pub tab : ℕ
 tab = 9
 
+-- what ends a line
 abbrev pub lineFeed : ℕ
 lineFeed = 10
 
@@ -26,6 +28,7 @@ unfoldable pub lines : List ℕ → List (List ℕ)
 lines [] = []
 lines (b ∷ bs) = elim (eqb b lineFeed) [ true ↦ (b ∷ []) ∷ lines bs | false ↦ onto b (lines bs) ]
 
+-- nothing may follow the line feed
 unfoldable pub emptyOrNone : List ℕ → Option (List ℕ)
 emptyOrNone [] = some []
 emptyOrNone (b ∷ bs) = none

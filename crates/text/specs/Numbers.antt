@@ -12,6 +12,7 @@ use Rattle.text.specs.declared.Number.the-variants.{Written, Nothing}
 unfoldable pub isDigit : ℕ → Bool
 isDigit b = leb 48 b && leb b 57
 
+-- every byte is a digit
 unfoldable pub digits : List ℕ → Bool
 digits [] = true
 digits (b ∷ bs) = isDigit b && digits bs
@@ -36,21 +37,25 @@ numbers (f ∷ fs) = elim (number f) [ Nothing ↦ none | Written n ↦ Option·
 
 -- what is made of just as many numbers as wanted, or else the other
 module _ {A : Type 0} (other : A) where
+  -- no number
   unfoldable pub ofNone : A → List ℕ → A
   ofNone a [] = a
   ofNone a (n ∷ ns) = other
 
+  -- one number
   unfoldable pub ofOne : (ℕ → A) → List ℕ → A
   ofOne f [] = other
   ofOne f (n ∷ []) = f n
   ofOne f (n ∷ m ∷ ns) = other
 
+  -- two numbers
   unfoldable pub ofTwo : (ℕ → ℕ → A) → List ℕ → A
   ofTwo f [] = other
   ofTwo f (n ∷ []) = other
   ofTwo f (n ∷ m ∷ []) = f n m
   ofTwo f (n ∷ m ∷ k ∷ ns) = other
 
+  -- three numbers
   unfoldable pub ofThree : (ℕ → ℕ → ℕ → A) → List ℕ → A
   ofThree f [] = other
   ofThree f (n ∷ []) = other
