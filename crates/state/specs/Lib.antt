@@ -2,3 +2,4 @@ pub mod State
 pub mod Update
 pub mod Fresh
 pub mod Legal
+pub mod Facts
