@@ -1,0 +1,4 @@
+pub mod Until
+pub mod Parted
+pub mod Lines
+pub mod Numbers
