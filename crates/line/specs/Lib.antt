@@ -1,3 +1,5 @@
 pub mod Event
 pub mod Printed
+pub mod Filled
+pub mod Report
 pub mod Run

@@ -42,8 +42,12 @@ spaced (f ∷ []) = f ++ (lineFeed ∷ [])
 spaced (f ∷ g ∷ fs) = f ++ (space ∷ spaced (g ∷ fs))
 
 -- event number, answer, subsystem, task, tasks ended
+unfoldable pub answerLine : ℕ → ℕ → ℕ → ℕ → ℕ → List ℕ
+answerLine n answer subsystem task ended = spaced (decimal n ∷ decimal answer ∷ rowText subsystem ∷ rowText task ∷ endedText ended ∷ [])
+
+-- the printed line of an outcome
 unfoldable pub printed : ℕ → Outcome → List ℕ
-printed n o = spaced (decimal n ∷ decimal (o .answer) ∷ rowText (o .subsystem) ∷ rowText (o .task) ∷ endedText (o .ended) ∷ [])
+printed n o = answerLine n (o .answer) (o .subsystem) (o .task) (o .ended)
 
 -- on a refused plan: the word plan, the number and the number beside it
 unfoldable pub printedRefusal : ℕ → ℕ → List ℕ

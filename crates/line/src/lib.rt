@@ -3,3 +3,9 @@ pub enum Event {
     Known { kind: u32, task: u32, resource: u32 },
     Malformed,
 }
+
+// What writing into the rest of a buffer answers: the new fill, or that the line is longer than the rest.
+pub enum Filled {
+    Fill(usize),
+    NoRoom,
+}

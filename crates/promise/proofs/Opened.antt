@@ -56,7 +56,7 @@ unfolding StepEvents.answered StepEvents.released StepEvents.lengthFitsBudget St
 stepOpen = tt
 
 unfoldable pub lineOpen : Unit {0}
-unfolding LineEvent.ofName LineEvent.ofFields LineEvent.eventOf LinePrinted.rowText LinePrinted.isIn LinePrinted.commaBefore LinePrinted.rowsOnto LinePrinted.endedText LinePrinted.spaced LinePrinted.printed LinePrinted.printedRefusal LineRun.eventGives LineRun.lineGives LineRun.outcomes LineRun.printedFrom LineRun.printedRun LineRun.run
+unfolding LineEvent.ofName LineEvent.ofFields LineEvent.eventOf LinePrinted.rowText LinePrinted.isIn LinePrinted.commaBefore LinePrinted.rowsOnto LinePrinted.endedText LinePrinted.spaced LinePrinted.answerLine LinePrinted.printed LinePrinted.printedRefusal LineRun.eventGives LineRun.lineGives LineRun.outcomes LineRun.printedFrom LineRun.printedRun LineRun.run
 lineOpen = tt
 
 unfoldable pub computes : Unit {0}
