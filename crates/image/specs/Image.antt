@@ -1,7 +1,7 @@
 -- "Calls from C": the state image, 320 bytes, both ways, and when an image is refused.
 use mathlib.Core.Bool.{Bool, true, false, _&&_}
 use mathlib.Core.List.{List, [], _∷_, _++_}
-use Prim.Native.Nat.{ℕ, _+_, _*_}
+use Prim.Native.Nat.{ℕ, _+_, _*_, _/_, _%_}
 use lib.Dec.{eqb}
 use lib.ListN.{length}
 use Rattle.below.specs.Listed.{listed}
@@ -40,15 +40,9 @@ joined (l ∷ ls) = l ++ joined ls
 unfoldable pub imageOf : State → List ℕ
 imageOf s = joined (listed mostSubsystems (subsystemBytes s)) ++ joined (listed mostTasks (λ k. taskBytes (taskAt s k)))
 
--- the task that stands at a place
-unfoldable pub taskFrom : List ℕ → ℕ → Task
-taskFrom b at =
-    record {
-      condition = byteAt b at;
-      waits = byteAt b (at + 1);
-      count = byteAt b (at + 2);
-      held = listed mostHeld (λ i. byteAt b (at + 3 + i));
-    }
+-- where the byte of task k that comes i-th stands
+unfoldable pub taskByteAt : ℕ → ℕ → ℕ
+taskByteAt k i = tasksAt + 8 * k + i
 
 -- the state that an image writes, legal or not
 unfoldable pub stateOf : List ℕ → State
@@ -57,7 +51,10 @@ stateOf b =
       left = listed mostSubsystems (λ c. record { 0 = wordAt b (8 * c) });
       refill = listed mostSubsystems (λ c. wordAt b (8 * c + 2));
       used = listed mostSubsystems (λ c. wordAt b (8 * c + 4));
-      tasks = listed mostTasks (λ k. taskFrom b (tasksAt + 8 * k));
+      conditions = listed mostTasks (λ k. byteAt b (taskByteAt k 0));
+      waits = listed mostTasks (λ k. byteAt b (taskByteAt k 1));
+      counts = listed mostTasks (λ k. byteAt b (taskByteAt k 2));
+      held = listed 128 (λ i. byteAt b (taskByteAt (i / mostHeld) (3 + i % mostHeld)));
     }
 
 -- the image of a state that is legal for the plan

@@ -44,7 +44,7 @@ unfolding ReaderConditions.notGrammar ReaderConditions.kindOrder ReaderCondition
 readerOpen = tt
 
 unfoldable pub stateOpen : Unit {0}
-unfolding StateFresh.fresh StateLegal.implies StateLegal.countsLegal StateLegal.absentSubsystem StateLegal.wellWritten StateLegal.absentTask StateLegal.heldLegal StateLegal.restingLegal StateLegal.waitingLegal StateLegal.sectionLegal StateLegal.unusedLegal StateLegal.activeBefore StateLegal.localsLegal StateLegal.globalsLegal StateLegal.belowSection StateLegal.sectionsLegal StateLegal.subsystemLegal StateLegal.taskLegal StateLegal.legal StateState.idleTask StateState.taskAt StateState.leftOf StateState.refillOf StateState.usedOf StateState.hasBudget StateState.isIdle StateState.isReady StateState.isStarted StateState.isWaiting StateState.isActive StateState.heldAt StateState.holds StateState.lastHeld StateState.inSection StateState.sectionLeft StateUpdate.withTask StateUpdate.withLeft StateUpdate.withUsed StateUpdate.readied StateUpdate.started StateUpdate.waitingFor StateUpdate.taking StateUpdate.givingBack
+unfolding StateFresh.fresh StateLegal.implies StateLegal.countsLegal StateLegal.absentSubsystem StateLegal.wellWritten StateLegal.absentTask StateLegal.heldLegal StateLegal.restingLegal StateLegal.waitingLegal StateLegal.sectionLegal StateLegal.unusedLegal StateLegal.activeBefore StateLegal.localsLegal StateLegal.globalsLegal StateLegal.belowSection StateLegal.sectionsLegal StateLegal.subsystemLegal StateLegal.taskLegal StateLegal.legal StateState.idleTask StateState.heldPlace StateState.taskAt StateState.leftOf StateState.refillOf StateState.usedOf StateState.hasBudget StateState.isIdle StateState.isReady StateState.isStarted StateState.isWaiting StateState.isActive StateState.heldAt StateState.holds StateState.lastHeld StateState.inSection StateState.sectionLeft StateUpdate.withHeld StateUpdate.withTask StateUpdate.withLeft StateUpdate.withUsed StateUpdate.readied StateUpdate.started StateUpdate.waitingFor StateUpdate.taking StateUpdate.givingBack
 stateOpen = tt
 
 unfoldable pub choiceOpen : Unit {0}

@@ -3,10 +3,9 @@ use Prim.Native.Nat.{ℕ}
 use lib.ListN.{replicate}
 use Rattle.below.specs.Listed.{listed}
 use Rattle.plan.specs.declared.Plan.{Plan}
-use Rattle.plan.specs.Limits.{mostSubsystems, mostTasks}
+use Rattle.plan.specs.Limits.{mostSubsystems, mostTasks, noRow}
 use Rattle.plan.specs.Plan.{period, budget}
 use Rattle.state.specs.declared.State.{State}
-use Rattle.state.specs.State.{idleTask}
 
 -- the state that a run starts in
 unfoldable pub fresh : Plan → State
@@ -15,5 +14,8 @@ fresh p =
       left = listed mostSubsystems (λ c. record { 0 = budget p c });
       refill = listed mostSubsystems (period p);
       used = replicate mostSubsystems 0;
-      tasks = replicate mostTasks idleTask;
+      conditions = replicate mostTasks 0;
+      waits = replicate mostTasks noRow;
+      counts = replicate mostTasks 0;
+      held = replicate 128 noRow;
     }

@@ -1,9 +1,10 @@
 -- "State": what a state says of a subsystem and of a task.
 use mathlib.Core.Bool.{Bool, _&&_, _||_}
-use Prim.Native.Nat.{ℕ, _-_}
+use Prim.Native.Nat.{ℕ, _+_, _*_, _-_}
 use lib.Dec.{leb, ltb, eqb}
 use lib.ListN.{getD, replicate}
 use Rattle.below.specs.Below.{any}
+use Rattle.below.specs.Listed.{listed}
 use Rattle.plan.specs.declared.Plan.{Plan}
 use Rattle.plan.specs.Limits.{noRow}
 use Rattle.plan.specs.Plan.{owner, isGlobal, lengthOf}
@@ -20,9 +21,19 @@ mostHeld = 4
 unfoldable pub idleTask : Task
 idleTask = record { condition = 0; waits = noRow; count = 0; held = replicate mostHeld noRow }
 
+-- where the i-th held resource of task k stands
+unfoldable pub heldPlace : ℕ → ℕ → ℕ
+heldPlace k i = k * mostHeld + i
+
 -- task row k
 unfoldable pub taskAt : State → ℕ → Task
-taskAt s k = getD (s .tasks) k idleTask
+taskAt s k =
+    record {
+      condition = getD (s .conditions) k 0;
+      waits = getD (s .waits) k noRow;
+      count = getD (s .counts) k 0;
+      held = listed mostHeld (λ i. getD (s .held) (heldPlace k i) noRow);
+    }
 
 -- budget left: Q
 unfoldable pub leftOf : State → ℕ → BudgetLeft

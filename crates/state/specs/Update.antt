@@ -1,22 +1,56 @@
 -- A state with one thing changed. All that the events alter goes through these.
-use Prim.Native.Nat.{ℕ, _+_, _-_}
+use mathlib.Core.List.{List}
+use Prim.Native.Nat.{ℕ, zero, suc, _+_, _-_}
 use lib.ListN.{set}
 use Rattle.plan.specs.Limits.{noRow}
 use Rattle.state.specs.declared.BudgetLeft.{BudgetLeft}
 use Rattle.state.specs.declared.Task.{Task}
 use Rattle.state.specs.declared.State.{State}
+use Rattle.state.specs.State.{mostHeld, heldPlace, heldAt}
+
+-- the first n held resources of task k are those of t
+unfoldable pub withHeld : List ℕ → ℕ → Task → ℕ → List ℕ
+withHeld held k t zero = held
+withHeld held k t (suc n) = set (withHeld held k t n) (heldPlace k n) (heldAt t n)
 
 -- another task at row k
 unfoldable pub withTask : State → ℕ → Task → State
-withTask s k t = record { left = s .left; refill = s .refill; used = s .used; tasks = set (s .tasks) k t }
+withTask s k t =
+    record {
+      left = s .left;
+      refill = s .refill;
+      used = s .used;
+      conditions = set (s .conditions) k (t .condition);
+      waits = set (s .waits) k (t .waits);
+      counts = set (s .counts) k (t .count);
+      held = withHeld (s .held) k t mostHeld;
+    }
 
 -- another budget left for subsystem c
 unfoldable pub withLeft : State → ℕ → BudgetLeft → State
-withLeft s c q = record { left = set (s .left) c q; refill = s .refill; used = s .used; tasks = s .tasks }
+withLeft s c q =
+    record {
+      left = set (s .left) c q;
+      refill = s .refill;
+      used = s .used;
+      conditions = s .conditions;
+      waits = s .waits;
+      counts = s .counts;
+      held = s .held;
+    }
 
 -- another used count for subsystem c
 unfoldable pub withUsed : State → ℕ → ℕ → State
-withUsed s c n = record { left = s .left; refill = s .refill; used = set (s .used) c n; tasks = s .tasks }
+withUsed s c n =
+    record {
+      left = s .left;
+      refill = s .refill;
+      used = set (s .used) c n;
+      conditions = s .conditions;
+      waits = s .waits;
+      counts = s .counts;
+      held = s .held;
+    }
 
 -- a task released, with what it holds
 unfoldable pub readied : Task → Task

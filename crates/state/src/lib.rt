@@ -3,8 +3,8 @@ pub struct BudgetLeft(pub u16);
 
 pub struct SectionLeft(pub u16);
 
-// condition: 0 idle, 1 ready, 2 started, 3 waiting. waits: the resource waited for, or 255. The first count entries of held are the
-// resources held, in the order taken; the others are 255.
+// One task. condition: 0 idle, 1 ready, 2 started, 3 waiting. waits: the resource waited for, or 255. The first count entries of held
+// are the resources held, in the order taken; the others are 255.
 pub struct Task {
     pub condition: u8,
     pub waits: u8,
@@ -12,10 +12,14 @@ pub struct Task {
     pub held: [u8; 4],
 }
 
-// Per subsystem: budget left, ticks to the next refill, ticks used of its global section. Absent subsystems are all 0, absent tasks look idle.
+// A state in columns. Per subsystem: budget left, ticks to the next refill, ticks used of its global section. Per task: what Task has, with
+// its four held resources at 4 * task. Absent subsystems are all 0, absent tasks look idle.
 pub struct State {
     pub left: [BudgetLeft; 8],
     pub refill: [u16; 8],
     pub used: [u16; 8],
-    pub tasks: [Task; 32],
+    pub conditions: [u8; 32],
+    pub waits: [u8; 32],
+    pub counts: [u8; 32],
+    pub held: [u8; 128],
 }

@@ -57,7 +57,10 @@ refilled p s =
       left = listed mostSubsystems (λ c. elim (leb (refillOf s c) 1) [ true ↦ record { 0 = budget p c } | false ↦ leftOf s c ]);
       refill = listed mostSubsystems (λ c. elim (leb (refillOf s c) 1) [ true ↦ period p c | false ↦ refillOf s c - 1 ]);
       used = s .used;
-      tasks = s .tasks;
+      conditions = s .conditions;
+      waits = s .waits;
+      counts = s .counts;
+      held = s .held;
     }
 
 -- 0 done, or 10 where a section was shut
