@@ -10,6 +10,7 @@ use second::legal::legal;
 use second::read::read;
 use second::state::State;
 use std::collections::{BTreeMap, BTreeSet};
+use support::damage::{damage_byte, damage_in_place};
 use support::events::{event, Mood};
 use support::laws::{holders, judged_step, Ledger};
 use support::plans::{plan, Sketch};
@@ -159,20 +160,6 @@ fn damage_block(random: &mut Random, sketch: &Sketch, block: &mut [u8]) {
         let length = random.pick(&[65_535_u16, 0, 1, 2]).unwrap();
         block[start..start + 2].copy_from_slice(&length.to_le_bytes());
     }
-}
-
-fn damage_in_place(random: &mut Random, bytes: &mut [u8]) {
-    let place = random.below(bytes.len());
-    damage_byte(random, &mut bytes[place]);
-}
-
-fn damage_byte(random: &mut Random, byte: &mut u8) {
-    *byte = match random.below(5) {
-        0 => byte.wrapping_add(1),
-        1 => byte.wrapping_sub(1),
-        2 => random.pick(&[0, 1, 2, 3, 4, 5, 255]).unwrap(),
-        _ => random.next() as u8,
-    };
 }
 
 /// The lines that the counts of a block announce, whatever they say.

@@ -7,44 +7,10 @@ use second::run::{run, run_stream, MOST_LINES};
 use second::sample;
 use std::collections::BTreeSet;
 use std::io::{self, BufReader, Read, Write};
+use support::damage::damage_text;
 use support::events::any_row;
 use support::plans::plan;
-use support::random::{each_case, Random};
-
-/// Any damage to the bytes of a text: bytes changed, put in, taken out, lines moved or doubled, the end cut off.
-fn damage(random: &mut Random, text: &mut Vec<u8>) {
-    let place = random.below(text.len() + 1);
-    match random.below(7) {
-        0 => text.insert(place, random.next() as u8),
-        1 => text.insert(place, random.pick(b"\t\n 0123456789STRULG-").unwrap()),
-        2 if place < text.len() => {
-            text.remove(place);
-        }
-        3 if place < text.len() => text[place] = random.pick(b"\t\n0159STRULG").unwrap(),
-        4 if random.percent(20) => text.truncate(place),
-        _ => move_line(random, text),
-    }
-}
-
-/// Takes a line out, or leaves it, and puts it in elsewhere.
-fn move_line(random: &mut Random, text: &mut Vec<u8>) {
-    let mut lines: Vec<Vec<u8>> = text
-        .split_inclusive(|&byte| byte == b'\n')
-        .map(<[u8]>::to_vec)
-        .collect();
-    if lines.is_empty() {
-        return;
-    }
-    let from = random.below(lines.len());
-    let line = if random.percent(50) {
-        lines.remove(from)
-    } else {
-        lines[from].clone()
-    };
-    let to = random.below(lines.len() + 1);
-    lines.insert(to, line);
-    *text = lines.concat();
-}
+use support::random::each_case;
 
 /// Each refusal comes with a number beside it that can be, and each has to turn up.
 #[test]
@@ -56,7 +22,7 @@ fn damaged_plans_are_judged() {
             text = text.repeat(16_400 / text.len() + 1);
         }
         for _ in 0..random.within(1..=3) {
-            damage(random, &mut text);
+            damage_text(random, &mut text);
         }
         let lines = text.split_inclusive(|&byte| byte == b'\n').count() as u32;
         match read(&text) {
@@ -111,7 +77,7 @@ fn damaged_events_are_answered() {
             events.extend(line.into_bytes());
         }
         for _ in 0..random.within(0..=9) {
-            damage(random, &mut events);
+            damage_text(random, &mut events);
         }
         let printed = run(text.as_bytes(), &events);
         let lines = events.split_inclusive(|&byte| byte == b'\n').count();

@@ -1,0 +1,39 @@
+//! The calls of the proved static library, each behind a safe function over slices and numbers.
+//!
+//! Nothing checks these declarations against the proved source; `include/skrzypolot.h` has the same list for C.
+
+mod c {
+    extern "C" {
+        pub fn skrzypolot_read(
+            text: *const u8,
+            text_len: usize,
+            block: *mut u8,
+            block_len: usize,
+            beside: *mut u32,
+        ) -> u32;
+        pub fn skrzypolot_margin(
+            text: *const u8,
+            text_len: usize,
+            row: u32,
+            margin: *mut i64,
+        ) -> u32;
+    }
+}
+
+pub fn read(text: &[u8], block: &mut [u8], beside: &mut u32) -> u32 {
+    // SAFETY: every pointer is that of a slice or a number that is lent for the call, with its own length.
+    unsafe {
+        c::skrzypolot_read(
+            text.as_ptr(),
+            text.len(),
+            block.as_mut_ptr(),
+            block.len(),
+            beside,
+        )
+    }
+}
+
+pub fn margin(text: &[u8], row: u32, margin: &mut i64) -> u32 {
+    // SAFETY: as above.
+    unsafe { c::skrzypolot_margin(text.as_ptr(), text.len(), row, margin) }
+}

@@ -1,0 +1,1 @@
+// The calls from C. Their definitions are in specs/.
