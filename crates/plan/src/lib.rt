@@ -1,3 +1,14 @@
+// The plan record and what is asked of it. Every function takes any record of the type: a count may pass its table, a period may be 0.
+ghost use mathlib.Core.Path.{_≡_};
+ghost use Rattle.plan.specs.Admission.{blocking, demand, margin, firstNegative};
+
+mod admission;
+mod tables;
+
+use admission::blocking_of;
+use admission::demand_of;
+use tables::word_at;
+
 // A plan that was read. Rows past the counts are all 0. The length of task t at resource r stands at t * 16 + r; 65535 is undeclared.
 pub struct Plan {
     pub subsystems: u8,
@@ -8,4 +19,62 @@ pub struct Plan {
     pub owners: [u8; 32],
     pub kinds: [u8; 16],
     pub lengths: [u16; 512],
+}
+
+// "Admission": B of a row.
+pub fn blocking(p: Plan, s: u8) -> u16
+    ensures { λ r. ⌜ r ≡ blocking p s ⌝ }
+{
+    blocking_of(&p.owners, &p.kinds, &p.lengths, p.tasks, p.resources, s)
+}
+
+// "Admission": the demand of a row.
+pub fn demand(p: Plan, s: u8) -> u64
+    ensures { λ r. ⌜ r ≡ demand p s ⌝ }
+{
+    demand_of(
+        &p.periods,
+        &p.budgets,
+        &p.owners,
+        &p.kinds,
+        &p.lengths,
+        p.subsystems,
+        p.tasks,
+        p.resources,
+        s,
+    )
+}
+
+// "Admission": the period of a row minus its demand.
+pub fn margin(p: Plan, s: u8) -> i64
+    ensures { λ r. ⌜ r ≡ margin p s ⌝ }
+{
+    let d = demand_of(
+        &p.periods,
+        &p.budgets,
+        &p.owners,
+        &p.kinds,
+        &p.lengths,
+        p.subsystems,
+        p.tasks,
+        p.resources,
+        s,
+    );
+    let period = word_at(&p.periods, s as usize);
+    (period as i64) - (d as i64)
+}
+
+// "Admission": the first row whose margin is negative; the number of subsystems if none is.
+pub fn first_negative(p: Plan) -> u8
+    ensures { λ r. ⌜ r ≡ firstNegative p ⌝ }
+{
+    let mut s: u8 = 0;
+    while s < p.subsystems {
+        let d = demand(p, s);
+        if (word_at(&p.periods, s as usize) as u64) < d {
+            return s;
+        }
+        s += 1;
+    }
+    s
 }

@@ -1,0 +1,34 @@
+-- What the loops over a plan's tables compute. A loop is lent only the tables that it reads: its contract speaks of the plan that has these tables and
+-- no others, so that it cites the definition that it meets.
+use mathlib.Core.Bool.{Bool, not, _&&_, _||_, cond}
+use mathlib.Core.List.{List, []}
+use Prim.Native.Nat.{ℕ, _*_}
+use lib.Dec.{leb, ltb, eqb}
+use Rattle.below.specs.Below.{greatest}
+use Rattle.below.specs.Quotient.{roundedUp}
+use Rattle.plan.specs.declared.Plan.{Plan}
+use Rattle.plan.specs.Plan.{period, budget, owner, isGlobal, lengthOf, declares, level}
+
+abbrev pub lent : ℕ → ℕ → ℕ → List ℕ → List ℕ → List ℕ → List ℕ → List ℕ → Plan
+lent subsystems tasks resources periods budgets owners kinds lengths =
+    record {
+      subsystems = subsystems;
+      tasks = tasks;
+      resources = resources;
+      periods = periods;
+      budgets = budgets;
+      owners = owners;
+      kinds = kinds;
+      lengths = lengths;
+    }
+
+-- "Admission": what one pair of task and resource counts in B of row s, and what one task does
+unfoldable pub blockingAt : Plan → ℕ → ℕ → ℕ → ℕ
+blockingAt p s t r = cond (isGlobal p r && declares p t r && leb (level p s) (level p (owner p t))) (lengthOf p t r) 0
+
+unfoldable pub blockingBy : Plan → ℕ → ℕ → ℕ
+blockingBy p s t = greatest (p .resources) (blockingAt p s t)
+
+-- "Admission": what row h counts in the demand of row s
+unfoldable pub demandBy : Plan → ℕ → ℕ → ℕ
+demandBy p s h = cond (ltb (level p h) (level p s)) (budget p h * roundedUp (period p s) (period p h)) 0
