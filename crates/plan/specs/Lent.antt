@@ -4,7 +4,7 @@ use mathlib.Core.Bool.{Bool, not, _&&_, _||_, cond}
 use mathlib.Core.List.{List, []}
 use Prim.Native.Nat.{ℕ, _*_}
 use lib.Dec.{leb, ltb, eqb}
-use Rattle.below.specs.Below.{greatest}
+use Rattle.below.specs.Below.{any, greatest}
 use Rattle.below.specs.Quotient.{roundedUp}
 use Rattle.plan.specs.declared.Plan.{Plan}
 use Rattle.plan.specs.Plan.{period, budget, owner, isGlobal, lengthOf, declares, level}
@@ -32,3 +32,10 @@ blockingBy p s t = greatest (p .resources) (blockingAt p s t)
 -- "Admission": what row h counts in the demand of row s
 unfoldable pub demandBy : Plan → ℕ → ℕ → ℕ
 demandBy p s h = cond (ltb (level p h) (level p s)) (budget p h * roundedUp (period p s) (period p h)) 0
+
+-- "Ceilings": a task of level l declares the resource, and some task does
+unfoldable pub declaresAt : Plan → ℕ → ℕ → ℕ → Bool
+declaresAt p r l t = eqb (level p (owner p t)) l && declares p t r
+
+unfoldable pub declaredAt : Plan → ℕ → ℕ → Bool
+declaredAt p r l = any (p .tasks) (declaresAt p r l)

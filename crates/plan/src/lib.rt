@@ -1,12 +1,16 @@
 // The plan record and what is asked of it. Every function takes any record of the type: a count may pass its table, a period may be 0.
 ghost use mathlib.Core.Path.{_≡_};
+ghost use Rattle.below.specs.Listed.{listed};
+ghost use Rattle.plan.specs.Ceiling.{ceiling};
 ghost use Rattle.plan.specs.Admission.{blocking, demand, margin, firstNegative};
 
 mod admission;
+mod ceiling;
 mod tables;
 
 use admission::blocking_of;
 use admission::demand_of;
+use ceiling::ceilings_of;
 use tables::word_at;
 
 // A plan that was read. Rows past the counts are all 0. The length of task t at resource r stands at t * 16 + r; 65535 is undeclared.
@@ -19,6 +23,13 @@ pub struct Plan {
     pub owners: [u8; 32],
     pub kinds: [u8; 16],
     pub lengths: [u16; 512],
+}
+
+// "Ceilings" of all resources, by their rows.
+pub fn ceilings(p: Plan) -> [u8; 16]
+    ensures { λ r. ⌜ r ≡ listed 16 (ceiling p) ⌝ }
+{
+    ceilings_of(&p.owners, &p.kinds, &p.lengths, p.subsystems, p.tasks)
 }
 
 // "Admission": B of a row.
