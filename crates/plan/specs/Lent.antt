@@ -4,10 +4,12 @@ use mathlib.Core.Bool.{Bool, not, _&&_, _||_, cond}
 use mathlib.Core.List.{List, []}
 use Prim.Native.Nat.{ℕ, _*_}
 use lib.Dec.{leb, ltb, eqb}
-use Rattle.below.specs.Below.{any, greatest}
+use Rattle.below.specs.Below.{all, any, greatest}
 use Rattle.below.specs.Quotient.{roundedUp}
 use Rattle.plan.specs.declared.Plan.{Plan}
+use Rattle.plan.specs.Limits.{mostSubsystems, mostTasks, mostResources}
 use Rattle.plan.specs.Plan.{period, budget, owner, isGlobal, lengthOf, declares, level}
+use Rattle.plan.specs.Accepted.{countsFit, subsystemFits, taskFits, resourceFits, useFits, oneSubsystem}
 
 abbrev pub lent : ℕ → ℕ → ℕ → List ℕ → List ℕ → List ℕ → List ℕ → List ℕ → Plan
 lent subsystems tasks resources periods budgets owners kinds lengths =
@@ -39,3 +41,17 @@ declaresAt p r l t = eqb (level p (owner p t)) l && declares p t r
 
 unfoldable pub declaredAt : Plan → ℕ → ℕ → Bool
 declaredAt p r l = any (p .tasks) (declaresAt p r l)
+
+-- the listed conditions on rows, and those on pairs of a task and a resource
+unfoldable pub rowsFit : Plan → Bool
+rowsFit p = countsFit p && all mostSubsystems (subsystemFits p) && all mostTasks (taskFits p) && all mostResources (resourceFits p)
+
+unfoldable pub taskUsesFit : Plan → ℕ → Bool
+taskUsesFit p t = all mostResources (useFits p t)
+
+unfoldable pub usesFit : Plan → Bool
+usesFit p = all mostTasks (taskUsesFit p) && all (p .resources) (oneSubsystem p)
+
+-- 27, one task: it does not declare the resource, or its subsystem is s
+unfoldable pub usedFrom : Plan → ℕ → ℕ → ℕ → Bool
+usedFrom p r s t = not (declares p t r) || eqb s (owner p t)

@@ -3,15 +3,25 @@ ghost use mathlib.Core.Path.{_≡_};
 ghost use Rattle.below.specs.Listed.{listed};
 ghost use Rattle.plan.specs.Ceiling.{ceiling};
 ghost use Rattle.plan.specs.Admission.{blocking, demand, margin, firstNegative};
+ghost use Rattle.plan.specs.Accepted.{accepted};
+ghost use Rattle.plan.specs.Lent.{rowsFit, usesFit};
 
 mod admission;
 mod ceiling;
+mod rows;
 mod tables;
+mod uses;
 
 use admission::blocking_of;
 use admission::demand_of;
 use ceiling::ceilings_of;
+use rows::counts_fit;
+use rows::resources_fit;
+use rows::subsystems_fit;
+use rows::tasks_fit;
 use tables::word_at;
+use uses::lengths_fit;
+use uses::one_subsystem_each;
 
 // A plan that was read. Rows past the counts are all 0. The length of task t at resource r stands at t * 16 + r; 65535 is undeclared.
 pub struct Plan {
@@ -88,4 +98,48 @@ pub fn first_negative(p: Plan) -> u8
         s += 1;
     }
     s
+}
+
+fn rows_fit(p: Plan) -> bool
+    ensures { λ r. ⌜ r ≡ rowsFit p ⌝ }
+{
+    if !counts_fit(p.subsystems, p.tasks, p.resources) {
+        return false;
+    }
+    if !subsystems_fit(&p.periods, &p.budgets, p.subsystems) {
+        return false;
+    }
+    if !tasks_fit(&p.owners, p.subsystems, p.tasks) {
+        return false;
+    }
+    resources_fit(&p.kinds, p.resources)
+}
+
+fn uses_fit(p: Plan) -> bool
+    ensures { λ r. ⌜ r ≡ usesFit p ⌝ }
+{
+    if !lengths_fit(
+        &p.budgets,
+        &p.owners,
+        &p.kinds,
+        &p.lengths,
+        p.tasks,
+        p.resources,
+    ) {
+        return false;
+    }
+    one_subsystem_each(&p.owners, &p.kinds, &p.lengths, p.tasks, p.resources)
+}
+
+// Every condition of the table of refusals, as it reads on a record: rows, pairs, and then 30.
+pub fn accepted(p: Plan) -> bool
+    ensures { λ r. ⌜ r ≡ accepted p ⌝ }
+{
+    if !rows_fit(p) {
+        return false;
+    }
+    if !uses_fit(p) {
+        return false;
+    }
+    p.subsystems <= first_negative(p)
 }
