@@ -4,3 +4,4 @@ pub mod Ceiling
 pub mod Admission
 pub mod Accepted
 pub mod Facts
+pub mod Lent
