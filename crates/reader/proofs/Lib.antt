@@ -1,0 +1,4 @@
+pub mod PlanShape
+pub mod ListedRows
+pub mod ListedTied
+pub mod ListedPairs
