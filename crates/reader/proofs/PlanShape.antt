@@ -1,15 +1,15 @@
 -- The plan read so far: its lists keep their lengths, a place belongs to one pair, and what a new resource does to the lengths.
 use mathlib.Core.Path.{_≡_, refl, _∙_}
-use mathlib.Core.Logic.{⊎-elim}
+use mathlib.Core.Logic.{_⊎_, inl, inr, ⊎-elim}
 use mathlib.Core.Bool.{Bool, true, false, not, true≢false}
 use mathlib.Core.List.{List}
 use Prim.Native.Nat.{ℕ, zero, suc, _+_, _*_, _≤_, _<_}
 use native.Mathlib.Nat.{not-suc-le-zero, le-step, lt-suc-self}
 use native.Mathlib.Omega.{arith}
-use lib.Dec.{eqb}
+use lib.Dec.{ltb, eqb}
 use lib.ListN.{length, getD, set, length-set, replicate, length-replicate}
 use lib.Seq.{getD-set-same, getD-set-other}
-use borrow.Author.Tests.{eq-eqb, ne-eqb, eqb-false, not-true}
+use borrow.Author.Tests.{ltb-true, ltb-false, ne-eqb}
 use Rattle.below.proofs.Search.{last-or-before}
 use Rattle.plan.specs.declared.Plan.{Plan}
 use Rattle.plan.specs.Limits.{mostSubsystems, mostTasks, mostResources, undeclared}
@@ -17,6 +17,14 @@ use Rattle.plan.specs.Plan.{place, lengthOf, declares}
 use Rattle.reader.specs.declared.Line.{Line}
 use Rattle.reader.specs.declared.Line.the-variants.{Subsystem, Task, Resource, Uses, Malformed}
 use Rattle.reader.specs.Reading.{emptyPlan, opened, withSubsystem, withTask, withResource, withUse, withLine}
+
+-- a row is there or not
+pub there-or-not : (i n : ℕ) → (i < n) ⊎ (n ≤ i)
+there-or-not i n = go (ltb i n) refl
+  where
+    go : (b : Bool) → ltb i n ≡ b → (i < n) ⊎ (n ≤ i)
+    go true e = inl (ltb-true i n e)
+    go false e = inr (ltb-false i n e)
 
 -- the lists of a plan are as long as its tables
 pub record Shaped (p : Plan) : Type 0 where
