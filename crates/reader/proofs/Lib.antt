@@ -8,3 +8,6 @@ pub mod Listed
 pub mod SoundTests
 pub mod SoundPlan
 pub mod SoundFacts
+pub mod SoundLines
+pub mod SoundKinds
+pub mod Sound

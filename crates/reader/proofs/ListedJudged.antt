@@ -109,7 +109,7 @@ judge above last p w n l =
     (λ d h. absurd (not-suc-le-zero h))
 
 -- the plan after one line more
-planAfter-line : (p : Plan) (ls : List Line) (l : Line) → planAfter p (ls ++ (l ∷ [])) ≡ withLine (planAfter p ls) l
+pub planAfter-line : (p : Plan) (ls : List Line) (l : Line) → planAfter p (ls ++ (l ∷ [])) ≡ withLine (planAfter p ls) l
 unfolding planAfter
 planAfter-line p [] l = refl
 planAfter-line p (x ∷ ls) l = planAfter-line (withLine p x) ls l

@@ -18,7 +18,7 @@ use Rattle.reader.specs.Line.{kindOf}
 use Rattle.reader.specs.Reading.{emptyPlan, withSubsystem, withTask, withResource, withUse, withLine}
 use Rattle.reader.specs.Listed.{lineAt, countOf, InOrder, Condition}
 use Rattle.reader.proofs.PlanShape.{place-task, place-resource, declares-not, declares-short, declares-same, resource-own, resource-else, use-own, use-else}
-use Rattle.reader.proofs.ListedRows.{countOf-none, lineAt-old, lineAt-new}
+use Rattle.reader.proofs.ListedRows.{no-resource-yet, lineAt-old, lineAt-new}
 use Rattle.reader.proofs.ListedTied.{use-short, Tables, UsedAt, Stands, Pairs, Tied, latest-empty, latest-line, tables-empty, tables-subsystem, tables-task, tables-resource, tables-use}
 
 module _ (above : List Line) (l : Line) (t r : ℕ) where
@@ -77,11 +77,8 @@ module _ (above : List Line) (p : Plan) (w : Tables above p) (h : Pairs above p)
   -- no resource is there yet
   pairs-task : (s : ℕ) → InOrder above (Task s) → Pairs (above ++ (Task s ∷ [])) (withLine p (Task s))
   unfolding withLine withTask kindOf declares lengthOf
-  pairs-task s o = record { uses = uses; used = λ t r v. absurd (omega (arith, v .resource-there, w .resources-are, none)) }
+  pairs-task s o = record { uses = uses; used = λ t r v. absurd (omega (arith, v .resource-there, w .resources-are, no-resource-yet above s o)) }
     where
-      none : countOf 2 above ≡ 0
-      none = countOf-none 2 above (λ i u e. omega (arith, o i u))
-
       uses : (t r : ℕ) → UsedAt (above ++ (Task s ∷ [])) t r → Stands (withLine p (Task s)) t r
       uses t r u =
           let v = h .uses t r (used-other above (Task s) t r (omega arith) u) in

@@ -10,9 +10,9 @@ use lib.ListN.{length, getD, List·getD-append}
 use lib.Seq.{getD-append-seam}
 use borrow.Author.Tests.{eqb-true, eqb-false, eq-eqb, ne-eqb}
 use Rattle.reader.specs.declared.Line.{Line}
-use Rattle.reader.specs.declared.Line.the-variants.{Malformed}
+use Rattle.reader.specs.declared.Line.the-variants.{Task, Malformed}
 use Rattle.reader.specs.Line.{kindOf}
-use Rattle.reader.specs.Listed.{lineAt, countOf, rowOf}
+use Rattle.reader.specs.Listed.{lineAt, countOf, rowOf, InOrder}
 
 module _ (kind : ℕ) (l : Line) (ls : List Line) where
   -- the first line is of the kind
@@ -85,11 +85,16 @@ rowOf-kept kind (x ∷ ls) l n h = go (eqb (kindOf x) kind) refl n h (rowOf-kept
         (ih n (λ e c. h e (c ∙ sym (countOf-miss kind x ls q))))
 
 -- where no line is of the kind there is no row of it
-pub countOf-none : (kind : ℕ) (ls : List Line) → ((i : ℕ) → i < length ls → kindOf (lineAt ls i) ≡ kind → ⊥) → countOf kind ls ≡ 0
+countOf-none : (kind : ℕ) (ls : List Line) → ((i : ℕ) → i < length ls → kindOf (lineAt ls i) ≡ kind → ⊥) → countOf kind ls ≡ 0
 unfolding countOf lineAt
 countOf-none kind [] h = refl
 countOf-none kind (x ∷ ls) h =
     rw (ne-eqb (kindOf x) kind (h 0 (omega arith)), countOf-none kind ls (λ i u. h (suc i) (omega arith)))
+
+-- above a T line that is in order no R line stands
+pub no-resource-yet : (ls : List Line) (s : ℕ) → InOrder ls (Task s) → countOf 2 ls ≡ 0
+unfolding kindOf
+no-resource-yet ls s o = countOf-none 2 ls (λ i u e. omega (arith, o i u))
 
 -- the lines with one more at the end
 pub lineAt-old : (ls : List Line) (l : Line) (i : ℕ) → i < length ls → lineAt (ls ++ (l ∷ [])) i ≡ lineAt ls i

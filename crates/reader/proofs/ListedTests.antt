@@ -109,11 +109,11 @@ module _ (above : List Line) (last : ℕ) (p : Plan) (w : Tied above last p) whe
   decides-rows-there Malformed = free
 
   -- global by the plan is global by the lines
-  global-met : (r : ℕ) → isGlobal p r ≡ true → Global above r
+  pub global-met : (r : ℕ) → isGlobal p r ≡ true → Global above r
   unfolding isGlobal
   global-met r e = said-global (rowOf 2 above r) (rw (w .tables .kinds-are r) at e)
 
-  local-met : (r : ℕ) → isGlobal p r ≡ false → Global above r → ⊥
+  pub local-met : (r : ℕ) → isGlobal p r ≡ false → Global above r → ⊥
   unfolding isGlobal
   local-met r e = said-local (rowOf 2 above r) (rw (w .tables .kinds-are r) at e)
 

@@ -19,7 +19,7 @@ use Rattle.reader.specs.Line.{kindOf}
 use Rattle.reader.specs.Reading.{emptyPlan, opened, withSubsystem, withTask, withResource, withUse, withLine}
 use Rattle.reader.specs.Listed.{lineAt, countOf, rowOf, budgetSaid, ownerSaid, InOrder, InRange}
 use Rattle.reader.proofs.PlanShape.{zeros, Shaped, shaped-empty, shaped-line, place-task, place-resource, place-there, declares-not, declares-short, opened-at, opened-else}
-use Rattle.reader.proofs.ListedRows.{countOf-same, countOf-other, rowOf-new, rowOf-kept, countOf-none, lineAt-old, lineAt-new}
+use Rattle.reader.proofs.ListedRows.{countOf-same, countOf-other, rowOf-new, rowOf-kept, lineAt-old, lineAt-new}
 
 -- what an R line says
 unfoldable pub kindSaid : Line → ℕ

@@ -9,7 +9,7 @@ use native.Mathlib.Omega.{arith}
 use lib.Dec.{ltb, eqb}
 use lib.ListN.{length, getD, set, length-set, replicate, length-replicate}
 use lib.Seq.{getD-set-same, getD-set-other}
-use borrow.Author.Tests.{ltb-true, ltb-false, ne-eqb}
+use borrow.Author.Tests.{ltb-true, ltb-false, eqb-true, eqb-false, ne-eqb}
 use Rattle.below.proofs.Search.{last-or-before}
 use Rattle.plan.specs.declared.Plan.{Plan}
 use Rattle.plan.specs.Limits.{mostSubsystems, mostTasks, mostResources, undeclared}
@@ -42,6 +42,16 @@ place-task t r u q h k e = omega arith
 pub place-resource : (t r u q : ℕ) → r < 16 → q < 16 → place t r ≡ place u q → r ≡ q
 unfolding place
 place-resource t r u q h k e = omega arith
+
+-- two pairs are one, or their places differ
+pub same-or-apart : (u v t r : ℕ) → v < 16 → r < 16 → ((u ≡ t) × (v ≡ r)) ⊎ (place u v ≡ place t r → ⊥)
+same-or-apart u v t r h k = go (eqb (place u v) (place t r)) refl
+  where
+    go : (b : Bool) → eqb (place u v) (place t r) ≡ b → ((u ≡ t) × (v ≡ r)) ⊎ (place u v ≡ place t r → ⊥)
+    go true e =
+        let q = eqb-true (place u v) (place t r) e in
+        inl (place-task u v t r h k q, place-resource u v t r h k q)
+    go false e = inr (eqb-false (place u v) (place t r) e)
 
 -- the place of a pair of rows that are there is in the table
 pub place-there : (t r : ℕ) → t < 32 → r < 16 → place t r < 512

@@ -40,9 +40,10 @@ module _ (p : Plan) (shape : Shaped p) (e : accepted p ≡ true) where
     where
       past : 8 ≤ s → SubsystemCase p s
       past h =
-          inr
-          ((omega (arith, counts), List·getD-eq-default (p .periods) 0 (omega (arith, shape .periods-long))),
-          List·getD-eq-default (p .budgets) 0 (omega (arith, shape .budgets-long)))
+          inr (
+            (omega (arith, counts), List·getD-eq-default (p .periods) 0 (omega (arith, shape .periods-long))),
+            List·getD-eq-default (p .budgets) 0 (omega (arith, shape .budgets-long)),
+          )
 
   task-at : (t : ℕ) → TaskCase p t
   unfolding owner

@@ -111,6 +111,13 @@ one-case p w r h = go (isGlobal p r) refl
 
 pub sound-accepted : (p : Plan) → Sound p → 1 ≤ p .subsystems → admitted p ≡ true → accepted p ≡ true
 sound-accepted p w some a =
-    accepted-shows p .of
-    (((((((((some, w .subsystems-fit .few), w .tasks-fit .few), w .kinds-fit .few), λ s h. subsystem-case p w s), λ t h. task-case p w t), λ r h. resource-case p w r),
-    λ t h r k. use-case p w t r k), λ r h. one-case p w r h), a)
+    accepted-shows p .of (
+      (
+        (
+          ((((((some, w .subsystems-fit .few), w .tasks-fit .few), w .kinds-fit .few), λ s h. subsystem-case p w s), λ t h. task-case p w t), λ r h. resource-case p w r),
+          λ t h r k. use-case p w t r k,
+        ),
+        λ r h. one-case p w r h,
+      ),
+      a,
+    )
