@@ -11,3 +11,5 @@ pub mod SoundFacts
 pub mod SoundLines
 pub mod SoundKinds
 pub mod Sound
+pub mod TextOfDecimal
+pub mod TextOfLines
