@@ -13,3 +13,6 @@ pub mod SoundKinds
 pub mod Sound
 pub mod TextOfDecimal
 pub mod TextOfLines
+pub mod TextOfReads
+pub mod TextOfTables
+pub mod TextOfRows

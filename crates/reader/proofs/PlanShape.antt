@@ -72,7 +72,7 @@ unfolding declares
 declares-same p q t r e = rw e
 
 -- a new resource: the table keeps its length
-length-opened : (n r : ℕ) (ls : List ℕ) → length (opened n r ls) ≡ length ls
+pub length-opened : (n r : ℕ) (ls : List ℕ) → length (opened n r ls) ≡ length ls
 unfolding opened
 length-opened zero r ls = refl
 length-opened (suc n) r ls = length-set (opened n r ls) (place n r) undeclared ∙ length-opened n r ls
