@@ -16,3 +16,7 @@ pub mod TextOfLines
 pub mod TextOfReads
 pub mod TextOfTables
 pub mod TextOfRows
+pub mod TextOfEntered
+pub mod TextOfUses
+pub mod TextOfLong
+pub mod TextOf

@@ -28,8 +28,8 @@ pub record Onward (r : Reading) (rest : List ℕ) (k : ℕ) (p : Plan) : Type 0 
 abbrev pub Reads : ℕ → ℕ → List ℕ → Plan → Plan → Type 0
 Reads i j text p q = (rest : List ℕ) (n last : ℕ) → last ≤ i → Onward (readFrom (lines (text ++ rest)) n last p) rest j q
 
-pub reads-none : (i j : ℕ) (p : Plan) → i ≤ j → Reads i j [] p p
-reads-none i j p h rest n last u = record { line = n; last = last; order = omega arith; goes-on = refl }
+pub reads-none : (i j : ℕ) (p q : Plan) → i ≤ j → p ≡ q → Reads i j [] p q
+reads-none i j p q h e rest n last u = record { line = n; last = last; order = omega arith; goes-on = rw e }
 
 pub reads-then : (i j k : ℕ) (a b : List ℕ) (p q r : Plan) → Reads i j a p q → Reads j k b q r → Reads i k (a ++ b) p r
 reads-then i j k a b p q r f g rest n last h = go (f (b ++ rest) n last h)
@@ -39,10 +39,14 @@ reads-then i j k a b p q r f g rest n last h = go (f (b ++ rest) n last h)
         let y = g rest (x .line) (x .last) (x .order) in
         record { line = y .line; last = y .last; order = y .order; goes-on = rw (append-assoc a b rest) (x .goes-on ∙ y .goes-on) }
 
+-- fewer kinds may come before
+pub reads-after : (h i j : ℕ) (text : List ℕ) (p q : Plan) → h ≤ i → Reads i j text p q → Reads h j text p q
+reads-after h i j text p q l f rest n last u = f rest n last (omega arith)
+
 -- texts one behind the other, each from its plan to the next
 pub reads-texts : (k n : ℕ) (f : ℕ → List ℕ) (P : ℕ → Plan) → ((i : ℕ) → i < n → Reads k k (f i) (P i) (P (suc i))) → Reads k k (texts n f) (P 0) (P n)
 unfolding texts
-reads-texts k zero f P h = reads-none k k (P 0) (omega arith)
+reads-texts k zero f P h = reads-none k k (P 0) (P 0) (omega arith) refl
 reads-texts k (suc n) f P h =
     reads-then k k k (texts n f) (f n) (P 0) (P n) (P (suc n)) (reads-texts k n f P (λ i u. h i (le-step u))) (h n (lt-suc-self n))
 
