@@ -1,21 +1,19 @@
 -- A plan text is accepted exactly when it meets the listed conditions, and a refusal names the first one broken.
-use mathlib.Core.Path.{_≡_, refl, sym, ap, _∙_}
-use mathlib.Core.Bool.{Bool, true, false, true≢false, false≢true}
-use mathlib.Core.List.{List, [], _∷_, map}
-use Prim.Native.Nat.{ℕ, zero, suc, _+_, _≤_, _<_}
+use mathlib.Core.Path.{_≡_, refl, sym, _∙_}
+use mathlib.Core.Bool.{Bool, true, false, true≢false}
+use mathlib.Core.List.{List}
+use Prim.Native.Nat.{ℕ, _≤_, _<_}
 use native.Mathlib.Nat.{not-suc-le-zero}
 use native.Mathlib.Omega.{arith}
 use lib.Dec.{ltb, eqb}
-use lib.ListN.{length, take}
+use lib.ListN.{length}
 use borrow.Author.Tests.{ltb-true, ltb-false, eqb-true, eqb-false, ne-eqb}
-use Rattle.below.proofs.Search.{first-passes, first-before, first-le}
+use Rattle.below.proofs.Search.{first-passes, first-before}
 use Rattle.text.specs.Lines.{lines}
 use Rattle.plan.specs.declared.Plan.{Plan}
 use Rattle.plan.specs.Plan.{period}
 use Rattle.plan.specs.Admission.{demand, firstNegative}
-use Rattle.reader.specs.declared.Verdict.{Verdict}
 use Rattle.reader.specs.declared.Verdict.the-variants.{Accepted, TooLong, NoSubsystem, NegativeMargin}
-use Rattle.reader.specs.declared.Line.{Line}
 use Rattle.reader.specs.declared.Reading.{Reading}
 use Rattle.reader.specs.Numbers.{number, beside, isAccepted}
 use Rattle.reader.specs.Reading.{mostBytes, emptyPlan, refused, readFrom, judgedWhole, reading}

@@ -7,21 +7,20 @@ use Prim.Native.Nat.{ℕ, zero, suc, _+_, _≤_, _<_}
 use native.Mathlib.Nat.{not-suc-le-zero}
 use native.Mathlib.Numerals.{add-one}
 use native.Mathlib.Omega.{arith}
-use lib.Dec.{eqb}
-use lib.ListN.{length, getD, take, drop, length-drop}
+use lib.ListN.{length, take, drop, length-drop}
 use lib.Seq.{take-suc, take-all, drop-cons}
 use borrow.Author.Tests.{ne-eqb}
 use Rattle.below.proofs.Search.{last-or-before}
 use Rattle.plan.specs.declared.Plan.{Plan}
 use Rattle.reader.specs.declared.Verdict.{Verdict}
-use Rattle.reader.specs.declared.Verdict.the-variants.{Accepted, TooLong, NotGrammar, KindOrder, TooManyRows, NoSuchRow, OutOfRange, Twice, TwoSubsystems, AboveBudget, NoSubsystem, NegativeMargin}
+use Rattle.reader.specs.declared.Verdict.the-variants.{Accepted}
 use Rattle.reader.specs.declared.Line.{Line}
 use Rattle.reader.specs.declared.Line.the-variants.{Malformed}
 use Rattle.reader.specs.declared.Reading.{Reading}
 use Rattle.reader.specs.Numbers.{number, beside, isAccepted}
 use Rattle.reader.specs.Line.{lineOf, kindOf}
 use Rattle.reader.specs.Reading.{emptyPlan, firstOf, judged, withLine, refused, readFrom}
-use Rattle.reader.specs.Listed.{lineAt, countOf, Condition, LineMeets, planAfter}
+use Rattle.reader.specs.Listed.{lineAt, Condition, LineMeets, planAfter}
 use Rattle.reader.proofs.ListedTied.{Tied}
 use Rattle.reader.proofs.ListedPairs.{tied-line}
 use Rattle.reader.proofs.ListedTests.{Decides, decides-grammar, decides-order, decides-rows-left, decides-rows-there, decides-range, decides-once, decides-one-subsystem, decides-budget}

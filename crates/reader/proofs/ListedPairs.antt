@@ -1,9 +1,9 @@
 -- The declared pairs of the plan read so far are the U lines above: kept by every line that meets its conditions.
 use mathlib.Core.Path.{_≡_, refl, sym, ap, _∙_}
 use mathlib.Core.Logic.{_⊎_, inl, inr, ⊎-elim}
-use mathlib.Core.Bool.{Bool, true, false, true≢false, false≢true}
+use mathlib.Core.Bool.{Bool, true, false, true≢false}
 use mathlib.Core.List.{List, [], _∷_, _++_}
-use Prim.Native.Nat.{ℕ, zero, suc, _+_, _≤_, _<_}
+use Prim.Native.Nat.{ℕ, _+_, _<_}
 use native.Mathlib.Nat.{not-suc-le-zero}
 use native.Mathlib.Omega.{arith}
 use lib.Dec.{eqb}
@@ -16,7 +16,7 @@ use Rattle.reader.specs.declared.Line.{Line}
 use Rattle.reader.specs.declared.Line.the-variants.{Subsystem, Task, Resource, Uses, Malformed}
 use Rattle.reader.specs.Line.{kindOf}
 use Rattle.reader.specs.Reading.{emptyPlan, withSubsystem, withTask, withResource, withUse, withLine}
-use Rattle.reader.specs.Listed.{lineAt, countOf, InOrder, Condition}
+use Rattle.reader.specs.Listed.{countOf, InOrder, Condition}
 use Rattle.reader.proofs.PlanShape.{place-task, place-resource, declares-not, declares-short, declares-same, resource-own, resource-else, use-own, use-else}
 use Rattle.reader.proofs.ListedRows.{no-resource-yet, lineAt-old, lineAt-new}
 use Rattle.reader.proofs.ListedTied.{use-short, Tables, UsedAt, Stands, Pairs, Tied, latest-empty, latest-line, tables-empty, tables-subsystem, tables-task, tables-resource, tables-use}

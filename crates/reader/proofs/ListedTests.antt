@@ -1,15 +1,14 @@
 -- Each test of a line is true exactly when the line breaks its condition, over a plan that is tied to the lines above.
 use mathlib.Core.Path.{_≡_, refl, sym, ap, _∙_}
-use mathlib.Core.Logic.{⊎-elim}
 use mathlib.Core.Bool.{Bool, true, false, not, _&&_, _||_, cond, true≢false, false≢true, and-eq-true-iff}
-use mathlib.Core.List.{List, [], _∷_}
-use Prim.Native.Nat.{ℕ, zero, suc, _+_, _≤_, _<_}
+use mathlib.Core.List.{List}
+use Prim.Native.Nat.{ℕ, _≤_, _<_}
 use native.Mathlib.Omega.{arith}
-use lib.Dec.{leb, ltb, eqb}
-use lib.ListN.{length, getD}
+use lib.Dec.{leb, eqb}
+use lib.ListN.{length}
 use borrow.Author.Tests.{ltb-true, ltb-false, leb-true, leb-false, eqb-true, eqb-false, not-true, not-false}
 use Rattle.below.specs.Below.{any}
-use Rattle.below.proofs.Search.{any-true, any-of, any-false}
+use Rattle.below.proofs.Search.{any-true, any-false}
 use Rattle.plan.specs.declared.Plan.{Plan}
 use Rattle.plan.specs.Plan.{budget, owner, isGlobal, declares}
 use Rattle.reader.specs.declared.Line.{Line}
@@ -17,7 +16,7 @@ use Rattle.reader.specs.declared.Line.the-variants.{Subsystem, Task, Res
 use Rattle.reader.specs.Line.{kindOf}
 use Rattle.reader.specs.Conditions.{notGrammar, kindOrder, tooManyRows, noSuchRow, outOfRange, twice, twoSubsystems, aboveBudget}
 use Rattle.reader.specs.Listed.{lineAt, countOf, rowOf, budgetSaid, ownerSaid, Global, OfGrammar, InOrder, RowsLeft, RowsThere, InRange, Once, FromOneSubsystem, WithinBudget}
-use Rattle.reader.proofs.ListedTied.{kindSaid, said-global, said-local, UsedAt, Stands, Tables, Tied}
+use Rattle.reader.proofs.ListedTied.{said-global, said-local, Stands, Tied}
 
 -- a test that is true exactly when a condition is broken
 pub record Decides (b : Bool) (A : Type 0) : Type 0 where

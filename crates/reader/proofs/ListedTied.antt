@@ -3,22 +3,22 @@ use mathlib.Core.Path.{_≡_, refl, sym, ap, _∙_}
 use mathlib.Core.Logic.{⊎-elim}
 use mathlib.Core.Bool.{Bool, true, false, false≢true}
 use mathlib.Core.List.{List, [], _∷_, _++_}
-use Prim.Native.Nat.{ℕ, zero, suc, _+_, _≤_, _<_}
+use Prim.Native.Nat.{ℕ, _≤_, _<_}
 use native.Mathlib.Nat.{not-suc-le-zero}
 use native.Mathlib.Omega.{arith}
 use lib.Dec.{eqb}
-use lib.ListN.{length, getD, set, length-append, getD-replicate}
+use lib.ListN.{length, getD, set, length-append}
 use lib.Seq.{getD-set-same, getD-set-other}
 use borrow.Author.Tests.{eqb-true, eqb-false}
 use Rattle.below.proofs.Search.{last-or-before}
 use Rattle.plan.specs.declared.Plan.{Plan}
-use Rattle.plan.specs.Plan.{place, lengthOf, declares}
+use Rattle.plan.specs.Plan.{declares}
 use Rattle.reader.specs.declared.Line.{Line}
 use Rattle.reader.specs.declared.Line.the-variants.{Subsystem, Task, Resource, Uses, Malformed}
 use Rattle.reader.specs.Line.{kindOf}
-use Rattle.reader.specs.Reading.{emptyPlan, opened, withSubsystem, withTask, withResource, withUse, withLine}
+use Rattle.reader.specs.Reading.{emptyPlan, withSubsystem, withTask, withResource, withUse, withLine}
 use Rattle.reader.specs.Listed.{lineAt, countOf, rowOf, budgetSaid, ownerSaid, InOrder, InRange}
-use Rattle.reader.proofs.PlanShape.{zeros, Shaped, shaped-empty, shaped-line, place-task, place-resource, place-there, declares-not, declares-short, opened-at, opened-else}
+use Rattle.reader.proofs.PlanShape.{zeros, Shaped, shaped-empty, shaped-line}
 use Rattle.reader.proofs.ListedRows.{countOf-same, countOf-other, rowOf-new, rowOf-kept, lineAt-old, lineAt-new}
 
 -- what an R line says

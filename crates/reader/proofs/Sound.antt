@@ -1,8 +1,8 @@
 -- The plan of an accepted text is an accepted plan: its tables are of their lengths, and its entries are small.
-use mathlib.Core.Path.{_≡_, refl, sym, ap, _∙_}
+use mathlib.Core.Path.{_≡_, refl}
 use mathlib.Core.Bool.{Bool, true, false}
-use mathlib.Core.List.{List, [], _∷_, _++_, map}
-use Prim.Native.Nat.{ℕ, zero, suc, _+_, _≤_, _<_}
+use mathlib.Core.List.{List, [], _∷_, _++_}
+use Prim.Native.Nat.{ℕ, zero, suc, _≤_, _<_}
 use native.Mathlib.Nat.{le-of-lt}
 use native.Mathlib.Omega.{arith}
 use lib.Dec.{ltb}
@@ -19,7 +19,7 @@ use Rattle.reader.specs.declared.Line.{Line}
 use Rattle.reader.specs.declared.Line.the-variants.{Malformed}
 use Rattle.reader.specs.Numbers.{isAccepted}
 use Rattle.reader.specs.Line.{lineOf, kindOf}
-use Rattle.reader.specs.Reading.{emptyPlan, withLine, reading}
+use Rattle.reader.specs.Reading.{emptyPlan, reading}
 use Rattle.reader.specs.Listed.{linesOf, lineAt, countOf, Condition, LineMeets, planAfter, planIn, Meets}
 use Rattle.reader.proofs.PlanShape.{Shaped}
 use Rattle.reader.proofs.ListedTied.{kindSaid, Tied}

@@ -1,24 +1,21 @@
 -- The facts of an accepted plan, from the test; and that its entries are small.
-use mathlib.Core.Path.{_≡_, refl, sym, ap, _∙_}
+use mathlib.Core.Path.{_≡_, refl, sym, _∙_}
 use mathlib.Core.Logic.{_⊎_, inl, inr, ⊎-elim}
-use mathlib.Core.Bool.{Bool, true, false, not, _&&_, _||_, true≢false, false≢true, and-eq-true-iff}
-use mathlib.Core.List.{List}
-use Prim.Native.Nat.{ℕ, zero, suc, _+_, _*_, _/_, _%_, _≤_, _<_}
+use mathlib.Core.Bool.{Bool, true, false, true≢false}
+use Prim.Native.Nat.{ℕ, _/_, _%_, _≤_, _<_}
 use native.Mathlib.Nat.{div-add-mod'}
 use native.Mathlib.Omega.{arith}
-use lib.Dec.{leb, ltb, eqb}
-use lib.ListN.{length, getD, List·getD-eq-default}
-use borrow.Author.Tests.{ltb-true, ltb-false, leb-true, leb-false, eqb-true, eqb-false, lt-ltb, le-ltb, le-leb, lt-leb, eq-eqb, ne-eqb, not-true, not-false}
-use Rattle.below.specs.Below.{all}
-use Rattle.below.proofs.Search.{all-at, all-of}
+use lib.Dec.{eqb}
+use lib.ListN.{getD, List·getD-eq-default}
+use borrow.Author.Tests.{eqb-true, not-false}
 use Rattle.plan.specs.declared.Plan.{Plan}
 use Rattle.plan.specs.Plan.{period, budget, owner, isGlobal, place, lengthOf, declares}
 use Rattle.plan.specs.Admission.{admitted}
-use Rattle.plan.specs.Accepted.{countsFit, subsystemFits, taskFits, resourceFits, lengthFits, useFits, oneSubsystem, accepted}
+use Rattle.plan.specs.Accepted.{accepted}
 use Rattle.reader.proofs.PlanShape.{Shaped, there-or-not}
 use Rattle.reader.proofs.ListedTied.{Stands}
 use Rattle.reader.proofs.SoundPlan.{SubsystemsFit, TasksFit, KindsFit, LengthFits, UsesFit, Sound}
-use Rattle.reader.proofs.SoundTests.{Shows, SubsystemCase, TaskCase, ResourceCase, LengthCase, UseCase, OneCase, AcceptedCase, accepted-shows}
+use Rattle.reader.proofs.SoundTests.{SubsystemCase, TaskCase, ResourceCase, LengthCase, UseCase, OneCase, AcceptedCase, accepted-shows}
 
 module _ (p : Plan) (shape : Shaped p) (e : accepted p ≡ true) where
   case : AcceptedCase p

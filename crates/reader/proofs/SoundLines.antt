@@ -1,24 +1,21 @@
 -- The facts of an accepted plan hold of the plan read so far: kept by every line that meets its conditions.
-use mathlib.Core.Path.{_≡_, refl, sym, ap, _∙_}
+use mathlib.Core.Path.{_≡_, refl, sym, _∙_}
 use mathlib.Core.Logic.{_⊎_, inl, inr, ⊎-elim}
-use mathlib.Core.Bool.{Bool, true, false, true≢false, false≢true}
-use mathlib.Core.List.{List, [], _∷_}
-use Prim.Native.Nat.{ℕ, zero, suc, _+_, _≤_, _<_}
+use mathlib.Core.Bool.{true, false, true≢false}
+use mathlib.Core.List.{List}
+use Prim.Native.Nat.{ℕ, _+_, _≤_, _<_}
 use native.Mathlib.Nat.{not-suc-le-zero}
 use native.Mathlib.Omega.{arith}
-use lib.Dec.{eqb}
 use lib.ListN.{length, getD, set}
 use lib.Seq.{getD-set-same, getD-set-other}
-use borrow.Author.Tests.{eqb-true, eqb-false}
 use Rattle.below.proofs.Search.{last-or-before}
 use Rattle.plan.specs.declared.Plan.{Plan}
-use Rattle.plan.specs.Plan.{period, budget, owner, isGlobal, place, lengthOf, declares}
+use Rattle.plan.specs.Plan.{budget, owner, isGlobal, place, lengthOf, declares}
 use Rattle.reader.specs.declared.Line.{Line}
 use Rattle.reader.specs.declared.Line.the-variants.{Subsystem, Task, Resource, Uses, Malformed}
-use Rattle.reader.specs.Line.{kindOf}
 use Rattle.reader.specs.Reading.{emptyPlan, withSubsystem, withTask, withResource, withUse, withLine}
-use Rattle.reader.specs.Listed.{lineAt, countOf, rowOf, ownerSaid, Condition}
-use Rattle.reader.proofs.PlanShape.{zeros, Shaped, shaped-empty, shaped-line, place-task, place-resource, declares-not, declares-short, declares-same, resource-own, resource-else, use-own, use-else, same-or-apart}
+use Rattle.reader.specs.Listed.{rowOf, ownerSaid, Condition}
+use Rattle.reader.proofs.PlanShape.{zeros, shaped-empty, shaped-line, place-task, place-resource, declares-not, declares-same, resource-own, resource-else, use-own, use-else, same-or-apart}
 use Rattle.reader.proofs.ListedRows.{no-resource-yet}
 use Rattle.reader.proofs.ListedTied.{kindSaid, Stands, Tied}
 use Rattle.reader.proofs.ListedTests.{global-met, local-met}

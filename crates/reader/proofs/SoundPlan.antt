@@ -1,22 +1,18 @@
 -- An accepted plan in plain facts: what holds of its subsystems, tasks, kinds and pairs, and the two ways between these facts and the test.
-use mathlib.Core.Path.{_≡_, refl, sym, ap, _∙_}
+use mathlib.Core.Path.{_≡_, refl}
 use mathlib.Core.Logic.{_⊎_, inl, inr, ⊎-elim}
-use mathlib.Core.Bool.{Bool, true, false, not, _&&_, _||_, true≢false, false≢true, and-eq-true-iff}
+use mathlib.Core.Bool.{Bool, true, false}
 use mathlib.Core.List.{List}
-use Prim.Native.Nat.{ℕ, zero, suc, _+_, _*_, _≤_, _<_}
+use Prim.Native.Nat.{ℕ, _≤_, _<_}
 use native.Mathlib.Omega.{arith}
-use lib.Dec.{leb, ltb, eqb}
-use lib.ListN.{length, getD, List·getD-eq-default}
-use borrow.Author.Tests.{ltb-true, ltb-false, leb-true, leb-false, eqb-true, eqb-false, lt-ltb, le-ltb, le-leb, lt-leb, eq-eqb, ne-eqb, not-true, not-false}
-use Rattle.below.specs.Below.{all}
-use Rattle.below.proofs.Search.{all-at, all-of}
+use lib.ListN.{getD}
 use Rattle.plan.specs.declared.Plan.{Plan}
-use Rattle.plan.specs.Plan.{period, budget, owner, isGlobal, place, lengthOf, declares}
+use Rattle.plan.specs.Plan.{period, budget, owner, isGlobal, lengthOf, declares}
 use Rattle.plan.specs.Admission.{admitted}
-use Rattle.plan.specs.Accepted.{countsFit, subsystemFits, taskFits, resourceFits, lengthFits, useFits, oneSubsystem, accepted}
+use Rattle.plan.specs.Accepted.{accepted}
 use Rattle.reader.proofs.PlanShape.{Shaped, there-or-not}
 use Rattle.reader.proofs.ListedTied.{Stands}
-use Rattle.reader.proofs.SoundTests.{Shows, SubsystemCase, TaskCase, ResourceCase, LengthCase, UseCase, OneCase, AcceptedCase, accepted-shows}
+use Rattle.reader.proofs.SoundTests.{SubsystemCase, TaskCase, ResourceCase, LengthCase, UseCase, OneCase, accepted-shows}
 
 -- the first n rows of subsystems are in range, and the others are 0
 pub record SubsystemsFit (n : ℕ) (periods budgets : List ℕ) : Type 0 where

@@ -1,12 +1,11 @@
 -- The text of an accepted plan reads back as that plan.
-use mathlib.Core.Path.{_≡_, refl, sym, ap, subst, _∙_}
+use mathlib.Core.Path.{_≡_, sym, ap, subst, _∙_}
 use mathlib.Core.Logic.{_⊎_, inl, inr}
-use mathlib.Core.Bool.{Bool, true, false}
-use mathlib.Core.List.{List, [], _∷_, _++_, append-nil}
-use Prim.Native.Nat.{ℕ, zero, suc, _+_, _*_, _/_, _%_, _≤_, _<_}
+use mathlib.Core.Bool.{true, false}
+use mathlib.Core.List.{List, [], _++_, append-nil}
+use Prim.Native.Nat.{ℕ, _/_, _%_, _≤_, _<_}
 use native.Mathlib.Nat.{div-add-mod'}
 use native.Mathlib.Omega.{arith}
-use lib.Dec.{ltb, eqb}
 use lib.ListN.{length, getD}
 use lib.Seq.{ext-getD}
 use borrow.Author.Tests.{le-ltb, leb-true, ne-eqb}
@@ -18,12 +17,12 @@ use Rattle.plan.specs.Accepted.{accepted}
 use Rattle.reader.specs.declared.Verdict.the-variants.{Accepted}
 use Rattle.reader.specs.declared.Reading.{Reading}
 use Rattle.reader.specs.Numbers.{isAccepted}
-use Rattle.reader.specs.Reading.{mostBytes, emptyPlan, readFrom, judgedWhole, reading}
+use Rattle.reader.specs.Reading.{emptyPlan, readFrom, judgedWhole, reading}
 use Rattle.reader.specs.TextOf.{texts, subsystemText, taskText, resourceText, useText, textOf}
 use Rattle.reader.proofs.PlanShape.{Shaped, there-or-not}
 use Rattle.reader.proofs.SoundPlan.{Sound}
 use Rattle.reader.proofs.SoundFacts.{accepted-some, accepted-admitted, accepted-sound}
-use Rattle.reader.proofs.TextOfReads.{Onward, Reads, reads-then, reads-after}
+use Rattle.reader.proofs.TextOfReads.{Reads, reads-then, reads-after}
 use Rattle.reader.proofs.TextOfTables.{openedTo, openedTo-absent}
 use Rattle.reader.proofs.TextOfRows.{tasksTo, resourcesTo, withLengths, reads-subsystems, reads-tasks, reads-resources}
 use Rattle.reader.proofs.TextOfEntered.{enteredTo, enteredTo-long, enteredTo-there, enteredTo-else}

@@ -1,36 +1,18 @@
 -- The lengths of the plan read so far, where the U lines read are those of a plan's text: entered task by task, resource by resource.
-use mathlib.Core.Path.{_≡_, refl, sym, ap, _∙_}
-use mathlib.Core.Logic.{_⊎_, inl, inr, ⊎-elim}
-use mathlib.Core.Bool.{Bool, true, false, not, _&&_, _||_, cond, true≢false}
-use mathlib.Core.List.{List, [], _∷_}
-use Prim.Native.Nat.{ℕ, zero, suc, _+_, _≤_, _<_}
+use mathlib.Core.Path.{_≡_, refl, _∙_}
+use mathlib.Core.Logic.{⊎-elim}
+use mathlib.Core.List.{List}
+use Prim.Native.Nat.{ℕ, zero, suc, _≤_, _<_}
 use native.Mathlib.Nat.{not-suc-le-zero, le-of-lt}
 use native.Mathlib.Omega.{arith}
-use lib.Dec.{leb, ltb, eqb}
 use lib.ListN.{length, getD, set, length-set}
-use lib.Seq.{getD-set-same, getD-set-other, set-getD}
-use borrow.Author.Tests.{le-ltb, le-leb, lt-leb, eq-eqb, eqb-true, not-false}
-use Rattle.below.specs.Below.{any}
-use Rattle.below.proofs.Search.{last-or-before, any-absent}
-use Rattle.text.specs.Bytes.{bytes}
-use Rattle.text.specs.Numbers.{decimal}
+use lib.Seq.{getD-set-same, getD-set-other}
+use Rattle.below.proofs.Search.{last-or-before}
 use Rattle.plan.specs.declared.Plan.{Plan}
-use Rattle.plan.specs.Limits.{undeclared}
-use Rattle.plan.specs.Plan.{budget, owner, isGlobal, place, lengthOf, declares}
-use Rattle.reader.specs.declared.Line.{Line}
-use Rattle.reader.specs.declared.Line.the-variants.{Uses}
-use Rattle.reader.specs.Line.{kindOf}
-use Rattle.reader.specs.Conditions.{notGrammar, kindOrder, tooManyRows, noSuchRow, outOfRange, twice, twoSubsystems, aboveBudget}
-use Rattle.reader.specs.Reading.{withLine, withUse}
-use Rattle.reader.specs.TextOf.{texts, useText}
-use Rattle.reader.proofs.PlanShape.{there-or-not, place-task, place-resource, place-there, declares-not, declares-same}
-use Rattle.reader.proofs.ListedTied.{Stands}
+use Rattle.plan.specs.Plan.{place, lengthOf}
+use Rattle.reader.proofs.PlanShape.{place-task, place-resource, place-there}
 use Rattle.reader.proofs.SoundPlan.{Sound}
-use Rattle.reader.proofs.TextOfDecimal.{decimal-plain}
-use Rattle.reader.proofs.TextOfLines.{use-line}
-use Rattle.reader.proofs.TextOfReads.{Reads, reads-none, reads-texts, Passes}
-use Rattle.reader.proofs.TextOfTables.{openedTo, openedTo-long, openedTo-there}
-use Rattle.reader.proofs.TextOfRows.{withLengths, reads-fields}
+use Rattle.reader.proofs.TextOfTables.{openedTo, openedTo-long}
 
 -- the lengths of task t at its first n resources entered into a table
 unfoldable pub entered : Plan → ℕ → ℕ → List ℕ → List ℕ

@@ -1,23 +1,19 @@
 -- The lines that are written read back: each is one line of the text, and says what was meant.
-use mathlib.Core.Path.{_≡_, refl, sym, ap, _∙_}
-use mathlib.Core.Bool.{Bool, true, false}
-use mathlib.Core.List.{List, [], _∷_, _++_, append-nil, append-assoc}
-use mathlib.Core.Option.{Option, none, some, Option·map}
-use Prim.Native.Nat.{ℕ, zero, suc, _+_, _≤_, _<_}
+use mathlib.Core.Path.{_≡_, refl}
+use mathlib.Core.Bool.{false}
+use mathlib.Core.List.{List, [], _∷_, _++_, append-nil}
+use mathlib.Core.Option.{some}
+use Prim.Native.Nat.{ℕ, _≤_}
 use native.Mathlib.Omega.{arith}
 use lib.Dec.{eqb}
-use lib.ListN.{length, length-append}
 use borrow.Author.Tests.{ne-eqb}
-use Rattle.text.specs.declared.Number.{Number}
-use Rattle.text.specs.declared.Number.the-variants.{Written, Nothing}
 use Rattle.text.specs.Bytes.{bytes, same}
 use Rattle.text.specs.Lines.{lines, onto, body, emptyOrNone, fields}
-use Rattle.text.specs.Numbers.{number, numbers, decimal, ofOne, ofTwo, ofThree}
-use Rattle.reader.specs.declared.Line.{Line}
-use Rattle.reader.specs.declared.Line.the-variants.{Subsystem, Task, Resource, Uses, Malformed}
+use Rattle.text.specs.Numbers.{numbers, decimal, ofOne, ofTwo, ofThree}
+use Rattle.reader.specs.declared.Line.the-variants.{Subsystem, Task, Resource, Uses}
 use Rattle.reader.specs.Line.{ofNumbers, ofKind, ofKindField, ofFields, lineOf}
 use Rattle.reader.specs.TextOf.{tabbed}
-use Rattle.reader.proofs.TextOfDecimal.{Plain, decimal-plain, decimal-long, decimal-number}
+use Rattle.reader.proofs.TextOfDecimal.{Plain, decimal-number}
 
 -- a text that is one line, with this body
 pub record OneLine (l b : List ℕ) : Type 0 where

@@ -1,20 +1,19 @@
 -- Reading on over a part of a text: from the plan before it to the plan behind it.
-use mathlib.Core.Path.{_≡_, refl, sym, ap, _∙_}
-use mathlib.Core.Bool.{Bool, true, false}
+use mathlib.Core.Path.{_≡_, refl, _∙_}
+use mathlib.Core.Bool.{false}
 use mathlib.Core.List.{List, [], _∷_, _++_, append-assoc}
 use Prim.Native.Nat.{ℕ, zero, suc, _+_, _≤_, _<_}
 use native.Mathlib.Nat.{le-step, lt-suc-self}
 use native.Mathlib.Omega.{arith}
 use Rattle.text.specs.Lines.{lines}
 use Rattle.plan.specs.declared.Plan.{Plan}
-use Rattle.reader.specs.declared.Verdict.{Verdict}
 use Rattle.reader.specs.declared.Verdict.the-variants.{Accepted}
 use Rattle.reader.specs.declared.Line.{Line}
 use Rattle.reader.specs.declared.Reading.{Reading}
 use Rattle.reader.specs.Numbers.{isAccepted}
 use Rattle.reader.specs.Line.{lineOf, kindOf}
 use Rattle.reader.specs.Conditions.{notGrammar, kindOrder, tooManyRows, noSuchRow, outOfRange, twice, twoSubsystems, aboveBudget}
-use Rattle.reader.specs.Reading.{firstOf, judged, withLine, refused, readFrom}
+use Rattle.reader.specs.Reading.{firstOf, judged, withLine, readFrom}
 use Rattle.reader.specs.TextOf.{texts}
 
 -- a reading goes on with the rest of a text, after a line of a kind up to k, from the plan p

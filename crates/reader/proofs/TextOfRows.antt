@@ -1,20 +1,18 @@
 -- The S, T and R lines of a plan's text read back: the plan after some of them is the plan cut to those rows.
 use mathlib.Core.Path.{_≡_, refl, sym, ap, _∙_}
-use mathlib.Core.Logic.{⊎-elim}
-use mathlib.Core.Bool.{Bool, true, false, not, _&&_}
-use mathlib.Core.List.{List, [], _∷_, _++_}
-use Prim.Native.Nat.{ℕ, zero, suc, _+_, _≤_, _<_}
+use mathlib.Core.Bool.{Bool, true, false}
+use mathlib.Core.List.{List, [], _∷_}
+use Prim.Native.Nat.{ℕ, suc, _≤_, _<_}
 use native.Mathlib.Numerals.{add-one}
 use native.Mathlib.Omega.{arith}
-use lib.Dec.{leb, ltb, eqb}
-use lib.ListN.{length, getD, replicate}
+use lib.ListN.{getD}
 use borrow.Author.Tests.{le-ltb, le-leb, lt-leb, eqb-true, eqb-false}
 use Rattle.text.specs.Bytes.{bytes}
 use Rattle.text.specs.Numbers.{decimal}
 use Rattle.plan.specs.declared.Plan.{Plan}
 use Rattle.plan.specs.Plan.{period, budget, owner, isGlobal}
 use Rattle.reader.specs.declared.Line.{Line}
-use Rattle.reader.specs.declared.Line.the-variants.{Subsystem, Task, Resource, Uses, Malformed}
+use Rattle.reader.specs.declared.Line.the-variants.{Subsystem, Task, Resource}
 use Rattle.reader.specs.Line.{ofFields, kindOf}
 use Rattle.reader.specs.Conditions.{notGrammar, kindOrder, tooManyRows, noSuchRow, outOfRange, twice, twoSubsystems, aboveBudget}
 use Rattle.reader.specs.Reading.{emptyPlan, withLine, withSubsystem, withTask, withResource}

@@ -1,18 +1,17 @@
 -- The tables of the plan read so far, where the lines read are those of a plan's text: each is copied row by row.
-use mathlib.Core.Path.{_≡_, refl, sym, ap, _∙_}
+use mathlib.Core.Path.{_≡_, sym, _∙_}
 use mathlib.Core.Logic.{⊎-elim}
-use mathlib.Core.List.{List, [], _∷_}
-use Prim.Native.Nat.{ℕ, zero, suc, _+_, _≤_, _<_}
+use mathlib.Core.List.{List}
+use Prim.Native.Nat.{ℕ, zero, suc, _≤_, _<_}
 use native.Mathlib.Nat.{not-suc-le-zero, le-of-lt}
 use native.Mathlib.Omega.{arith}
 use lib.ListN.{length, getD, set, length-set, replicate, length-replicate}
 use lib.Seq.{getD-set-same, getD-set-other, ext-getD}
 use Rattle.below.proofs.Search.{last-or-before}
-use Rattle.plan.specs.declared.Plan.{Plan}
 use Rattle.plan.specs.Limits.{undeclared}
-use Rattle.plan.specs.Plan.{place, lengthOf}
+use Rattle.plan.specs.Plan.{place}
 use Rattle.reader.specs.Reading.{opened}
-use Rattle.reader.proofs.PlanShape.{there-or-not, zeros, place-task, place-resource, place-there, length-opened, opened-at, opened-else}
+use Rattle.reader.proofs.PlanShape.{there-or-not, zeros, place-task, place-resource, length-opened, opened-at, opened-else}
 
 -- the first i entries of a table of m, over zeros
 unfoldable pub copied : List ℕ → ℕ → ℕ → List ℕ

@@ -1,36 +1,35 @@
 -- The U lines of a plan's text read back: each passes, and what is left out was undeclared already.
 use mathlib.Core.Path.{_≡_, refl, sym, ap, _∙_}
-use mathlib.Core.Logic.{_⊎_, inl, inr, ⊎-elim}
-use mathlib.Core.Bool.{Bool, true, false, not, _&&_, _||_, cond, true≢false}
+use mathlib.Core.Logic.{⊎-elim}
+use mathlib.Core.Bool.{Bool, true, false, not, _&&_, cond}
 use mathlib.Core.List.{List, [], _∷_}
-use Prim.Native.Nat.{ℕ, zero, suc, _+_, _≤_, _<_}
-use native.Mathlib.Nat.{not-suc-le-zero, le-of-lt}
+use Prim.Native.Nat.{ℕ, suc, _≤_, _<_}
+use native.Mathlib.Nat.{le-of-lt}
 use native.Mathlib.Omega.{arith}
-use lib.Dec.{leb, ltb, eqb}
-use lib.ListN.{length, getD, set, length-set}
-use lib.Seq.{getD-set-same, getD-set-other, set-getD}
+use lib.Dec.{leb, eqb}
+use lib.ListN.{getD, set}
+use lib.Seq.{set-getD}
 use borrow.Author.Tests.{le-ltb, le-leb, lt-leb, eq-eqb, eqb-true, not-false}
 use Rattle.below.specs.Below.{any}
-use Rattle.below.proofs.Search.{last-or-before, any-absent}
+use Rattle.below.proofs.Search.{any-absent}
 use Rattle.text.specs.Bytes.{bytes}
 use Rattle.text.specs.Numbers.{decimal}
 use Rattle.plan.specs.declared.Plan.{Plan}
 use Rattle.plan.specs.Limits.{undeclared}
 use Rattle.plan.specs.Plan.{budget, owner, isGlobal, place, lengthOf, declares}
-use Rattle.reader.specs.declared.Line.{Line}
 use Rattle.reader.specs.declared.Line.the-variants.{Uses}
 use Rattle.reader.specs.Line.{kindOf}
 use Rattle.reader.specs.Conditions.{notGrammar, kindOrder, tooManyRows, noSuchRow, outOfRange, twice, twoSubsystems, aboveBudget}
 use Rattle.reader.specs.Reading.{withLine, withUse}
 use Rattle.reader.specs.TextOf.{tabbed, texts, useText}
-use Rattle.reader.proofs.PlanShape.{there-or-not, place-task, place-resource, place-there, declares-not, declares-same}
+use Rattle.reader.proofs.PlanShape.{there-or-not, declares-not, declares-same}
 use Rattle.reader.proofs.ListedTied.{Stands}
 use Rattle.reader.proofs.SoundPlan.{LengthFits, Sound}
 use Rattle.reader.proofs.SoundFacts.{sound-ranged}
 use Rattle.reader.proofs.TextOfDecimal.{decimal-plain}
 use Rattle.reader.proofs.TextOfLines.{use-line}
 use Rattle.reader.proofs.TextOfReads.{Reads, reads-none, reads-texts, Passes}
-use Rattle.reader.proofs.TextOfTables.{openedTo, openedTo-long, openedTo-there}
+use Rattle.reader.proofs.TextOfTables.{openedTo, openedTo-there}
 use Rattle.reader.proofs.TextOfRows.{withLengths, reads-fields}
 use Rattle.reader.proofs.TextOfEntered.{entered, enteredTo, entered-else, enteredTo-there, enteredTo-else}
 
