@@ -1,0 +1,107 @@
+-- The plan of an accepted text is an accepted plan: its tables are of their lengths, and its entries are small.
+use mathlib.Core.Path.{_≡_, refl}
+use mathlib.Core.Bool.{Bool, true, false}
+use mathlib.Core.List.{List, [], _∷_, _++_}
+use Prim.Native.Nat.{ℕ, zero, suc, _≤_, _<_}
+use native.Mathlib.Nat.{le-of-lt}
+use native.Mathlib.Omega.{arith}
+use lib.Dec.{ltb}
+use lib.ListN.{length, getD, take, List·getD-map}
+use lib.Seq.{take-suc, take-length}
+use borrow.Author.Tests.{le-ltb, le-leb}
+use Rattle.below.proofs.Search.{first-absent}
+use Rattle.text.specs.Lines.{lines, body}
+use Rattle.plan.specs.declared.Plan.{Plan}
+use Rattle.plan.specs.Plan.{period}
+use Rattle.plan.specs.Admission.{demand, firstNegative, admitted}
+use Rattle.plan.specs.Accepted.{accepted}
+use Rattle.reader.specs.declared.Line.{Line}
+use Rattle.reader.specs.declared.Line.the-variants.{Malformed}
+use Rattle.reader.specs.Numbers.{isAccepted}
+use Rattle.reader.specs.Line.{lineOf, kindOf}
+use Rattle.reader.specs.Reading.{emptyPlan, reading}
+use Rattle.reader.specs.Listed.{linesOf, lineAt, countOf, Condition, LineMeets, planAfter, planIn, Meets}
+use Rattle.reader.proofs.PlanShape.{Shaped}
+use Rattle.reader.proofs.ListedTied.{kindSaid, Tied}
+use Rattle.reader.proofs.ListedPairs.{tied-empty, tied-line}
+use Rattle.reader.proofs.ListedJudged.{planAfter-line}
+use Rattle.reader.proofs.Listed.{accepted-meets, accepted-plan}
+use Rattle.reader.proofs.SoundPlan.{Sound, sound-accepted}
+use Rattle.reader.proofs.SoundFacts.{Ranged, sound-ranged}
+use Rattle.reader.proofs.SoundLines.{sound-empty, sound-line}
+use Rattle.reader.proofs.SoundKinds.{kind-of-line}
+
+-- the plan of some lines that meet their conditions
+record Built (ls : List Line) : Type 0 where
+  last : ℕ
+  tied : Tied ls last (planAfter emptyPlan ls)
+  sound : Sound (planAfter emptyPlan ls)
+
+built-line : (ls : List Line) (l : Line) → Built ls → ((c : ℕ) → Condition c ls l) → kindSaid l ≤ 1 → Built (ls ++ (l ∷ []))
+built-line ls l b c k = record {
+  last = kindOf l;
+  tied = rw (planAfter-line emptyPlan ls l) (tied-line ls (b .last) (planAfter emptyPlan ls) l (b .tied) c);
+  sound = rw (planAfter-line emptyPlan ls l) (sound-line ls (b .last) (planAfter emptyPlan ls) l (b .tied) c k (b .sound));
+}
+
+module _ (all : List Line) (each : (i : ℕ) → i < length all → LineMeets all i) (kinds : (i : ℕ) → kindSaid (lineAt all i) ≤ 1) where
+  built-next : (i : ℕ) → i < length all → Built (take i all) → Built (take (suc i) all)
+  unfolding lineAt
+  built-next i h b = rw (take-suc all i Malformed h) (built-line (take i all) (lineAt all i) b (each i h) (kinds i))
+
+  built-at : (i : ℕ) → i ≤ length all → Built (take i all)
+  unfolding planAfter
+  built-at zero h = record { last = 0; tied = tied-empty; sound = sound-empty }
+  built-at (suc i) h = built-next i h (built-at i (le-of-lt h))
+
+  built : Built all
+  built = rw (take-length all) at (built-at (length all) (omega arith))
+
+empty-line : lineOf [] ≡ Malformed
+unfolding lineOf body
+empty-line = refl
+
+-- each line of a text was read from bytes
+kinds-of-text : (text : List ℕ) (i : ℕ) → kindSaid (lineAt (linesOf text) i) ≤ 1
+unfolding linesOf lineAt
+kinds-of-text text i = rw (← empty-line, List·getD-map lineOf (lines text) i []) (kind-of-line (getD (lines text) i []))
+
+module _ (text : List ℕ) (e : isAccepted (reading text .verdict) ≡ true) where
+  meets : Meets text
+  meets = accepted-meets text e
+
+  all-built : Built (linesOf text)
+  all-built = built (linesOf text) (meets .each) (kinds-of-text text)
+
+  pub read-sound : Sound (reading text .plan)
+  unfolding planIn
+  read-sound = rw (accepted-plan text e) (all-built .sound)
+
+  pub read-shaped : Shaped (reading text .plan)
+  read-shaped = read-sound .shaped
+
+  pub read-ranged : Ranged (reading text .plan)
+  read-ranged = sound-ranged (reading text .plan) read-sound
+
+  -- no margin is negative
+  plan-admitted : admitted (planIn text) ≡ true
+  unfolding admitted firstNegative
+  plan-admitted = le-leb (p .subsystems) (firstNegative p) (omega (arith, first-absent (p .subsystems) over enough))
+    where
+      p : Plan
+      p = planIn text
+
+      over : ℕ → Bool
+      over s = ltb (period p s) (demand p s)
+
+      count : p .subsystems ≡ countOf 0 (linesOf text)
+      count = unfold planIn in all-built .tied .tables .subsystems-are
+
+      enough : (s : ℕ) → s < p .subsystems → over s ≡ false
+      enough s h = le-ltb (period p s) (demand p s) (meets .margins s (omega (arith, count)))
+
+  pub read-accepted : accepted (reading text .plan) ≡ true
+  unfolding planIn
+  read-accepted =
+      rw (accepted-plan text e)
+      (sound-accepted (planIn text) (all-built .sound) (omega (arith, meets .some-subsystem, all-built .tied .tables .subsystems-are)) plan-admitted)
