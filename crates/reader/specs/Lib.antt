@@ -5,3 +5,4 @@ pub mod Reading
 pub mod Margin
 pub mod Listed
 pub mod TextOf
+pub mod Pair

@@ -1,3 +1,5 @@
+pub mod grammar;
+
 use plan::Plan;
 
 // What reading a plan text answers. A number is the line, from 1, or the row.
