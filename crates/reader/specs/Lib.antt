@@ -6,3 +6,4 @@ pub mod Margin
 pub mod Listed
 pub mod TextOf
 pub mod Pair
+pub mod Judged

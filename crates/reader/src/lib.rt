@@ -1,4 +1,5 @@
 pub mod grammar;
+mod judge;
 
 use plan::Plan;
 
