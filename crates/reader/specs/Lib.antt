@@ -7,3 +7,4 @@ pub mod Listed
 pub mod TextOf
 pub mod Pair
 pub mod Judged
+pub mod Room

@@ -1,3 +1,4 @@
+mod build;
 pub mod grammar;
 mod judge;
 
