@@ -20,3 +20,6 @@ pub mod TextOfEntered
 pub mod TextOfUses
 pub mod TextOfLong
 pub mod TextOf
+pub mod Fields
+pub mod Letters
+pub mod Judged

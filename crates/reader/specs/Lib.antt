@@ -5,3 +5,6 @@ pub mod Reading
 pub mod Margin
 pub mod Listed
 pub mod TextOf
+pub mod Pair
+pub mod Judged
+pub mod Room

@@ -1,3 +1,7 @@
+mod build;
+pub mod grammar;
+mod judge;
+
 use plan::Plan;
 
 // What reading a plan text answers. A number is the line, from 1, or the row.

@@ -4,8 +4,9 @@ use mathlib.Core.Bool.{Bool, true, false}
 use mathlib.Core.List.{List, [], _∷_}
 use Prim.Native.Nat.{ℕ, zero, suc, _≤_, _<_}
 use native.Mathlib.Nat.{not-suc-le-zero, le-of-suc-le-suc}
+use native.Mathlib.Omega.{arith}
 use lib.Dec.{eqb}
-use lib.ListN.{length}
+use lib.ListN.{length, getD}
 use borrow.Author.Tests.{eqb-true}
 use Rattle.text.specs.Lines.{until}
 
@@ -39,3 +40,11 @@ whole b (x ∷ xs) h = go (eqb x b) refl (whole b xs) h
         → suc (length xs) ≤ elim c [ true ↦ zero | false ↦ suc (until b xs) ] → Whole b (x ∷ xs)
     go true e f l = absurd (not-suc-le-zero l)
     go false e f l = Whole.on e (f (le-of-suc-le-suc l))
+
+pub parted-at : {b : ℕ} {t : List ℕ} {m : ℕ} → Parted b t m → getD t m 0 ≡ b
+parted-at here = refl
+parted-at (Parted.on e p) = parted-at p
+
+pub parted-before : {b : ℕ} {t : List ℕ} {m : ℕ} → Parted b t m → m < length t
+parted-before here = omega arith
+parted-before (Parted.on e p) = omega (arith, parted-before p)

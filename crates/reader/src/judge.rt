@@ -1,0 +1,200 @@
+// "Admission", its table: what is said of one line over the plan read so far. The tests stand in the order of the table.
+ghost use mathlib.Core.Path.{_≡_};
+ghost use Prim.Native.Nat.{ℕ};
+ghost use lib.ListN.{getD};
+ghost use Rattle.below.specs.Below.{any};
+ghost use Rattle.plan.specs.declared.Plan.{Plan};
+ghost use Rattle.plan.specs.Plan.{declares};
+ghost use Rattle.reader.specs.Conditions.{outOfRange, twoSubsystems, aboveBudget};
+ghost use Rattle.reader.specs.Reading.{judged};
+ghost use Rattle.reader.specs.Judged.{judgedRows, apartAt};
+use crate::Line;
+use crate::Verdict;
+use crate::grammar::kind_of;
+use plan::Plan;
+
+// A place past the end reads as 0, as the definitions read it: so nothing has to be asked of the plan.
+fn byte_at(a: &[u8], i: usize) -> u8
+    ensures { λ r. ⌜ r ≡ getD (now (a .entry)) i 0 ⌝ }
+{
+    if i < a.len() {
+        return a[i];
+    }
+    0
+}
+
+fn word_at(a: &[u16], i: usize) -> u16
+    ensures { λ r. ⌜ r ≡ getD (now (a .entry)) i 0 ⌝ }
+{
+    if i < a.len() {
+        return a[i];
+    }
+    0
+}
+
+// S
+fn judge_subsystem(subsystems: u8, n: u32, period: u32, budget: u32) -> Verdict
+    ensures { λ r. ⌜ ((p : Plan) → p .subsystems ≡ subsystems → r ≡ judgedRows p n (Line.Subsystem period budget)) ⌝ }
+{
+    if 8 <= subsystems {
+        return Verdict::TooManyRows(n);
+    }
+    if period < 1 {
+        return Verdict::OutOfRange(n);
+    }
+    if 10000 < period {
+        return Verdict::OutOfRange(n);
+    }
+    if budget < 1 {
+        return Verdict::OutOfRange(n);
+    }
+    if period < budget {
+        return Verdict::OutOfRange(n);
+    }
+    Verdict::Accepted
+}
+
+// T
+fn judge_task(subsystems: u8, tasks: u8, n: u32, subsystem: u32) -> Verdict
+    ensures { λ r. ⌜ ((p : Plan) → p .subsystems ≡ subsystems → p .tasks ≡ tasks → r ≡ judgedRows p n (Line.Task subsystem)) ⌝ }
+{
+    if 32 <= tasks {
+        return Verdict::TooManyRows(n);
+    }
+    if (subsystems as u32) <= subsystem {
+        return Verdict::NoSuchRow(n);
+    }
+    Verdict::Accepted
+}
+
+// R
+fn judge_resource(resources: u8, n: u32, kind: u8) -> Verdict
+    ensures { λ r. ⌜ ((p : Plan) → p .resources ≡ resources → r ≡ judgedRows p n (Line.Resource kind)) ⌝ }
+{
+    if 16 <= resources {
+        return Verdict::TooManyRows(n);
+    }
+    Verdict::Accepted
+}
+
+// 27: task k declared the resource and belongs to another subsystem than owner.
+fn apart_at<'a>(owners: &'a [u8], lengths: &'a [u16], k: u8, resource: u32, owner: u8) -> bool
+    ensures { λ r. ⌜ r ≡ apartAt (now (owners .entry)) (now (lengths .entry)) resource owner k ⌝ }
+{
+    if word_at(lengths, (k as usize) * 16 + (resource as usize)) == 65535 {
+        return false;
+    }
+    byte_at(owners, k as usize) != owner
+}
+
+// 27: some task did.
+fn apart<'a>(owners: &'a [u8], lengths: &'a [u16], tasks: u8, resource: u32, owner: u8) -> bool
+    ensures { λ r. ⌜ r ≡ any tasks (apartAt (now (owners .entry)) (now (lengths .entry)) resource owner) ⌝ }
+{
+    let mut k: u8 = 0;
+    while k < tasks {
+        if apart_at(owners, lengths, k, resource, owner) {
+            return true;
+        }
+        k += 1;
+    }
+    false
+}
+
+// 25: the length of a global resource is 1 to 10000, of a local one 0.
+fn out_of_range(p: Plan, resource: u32, length: u32) -> bool
+    ensures { λ r. ⌜ ((t : ℕ) → r ≡ outOfRange p (Line.Uses t resource length)) ⌝ }
+{
+    if byte_at(&p.kinds, resource as usize) != 1 {
+        return length != 0;
+    }
+    if length < 1 {
+        return true;
+    }
+    if 10000 < length {
+        return true;
+    }
+    false
+}
+
+// 26
+fn declared(p: Plan, task: u32, resource: u32) -> bool
+    ensures { λ r. ⌜ r ≡ declares p task resource ⌝ }
+{
+    word_at(&p.lengths, (task as usize) * 16 + (resource as usize)) != 65535
+}
+
+// 27
+fn two_subsystems(p: Plan, task: u32, resource: u32) -> bool
+    ensures { λ r. ⌜ ((l : ℕ) → r ≡ twoSubsystems p (Line.Uses task resource l)) ⌝ }
+{
+    if byte_at(&p.kinds, resource as usize) == 1 {
+        return false;
+    }
+    let owner = byte_at(&p.owners, task as usize);
+    apart(&p.owners, &p.lengths, p.tasks, resource, owner)
+}
+
+// 28
+fn above_budget(p: Plan, task: u32, length: u32) -> bool
+    ensures { λ r. ⌜ ((s : ℕ) → r ≡ aboveBudget p (Line.Uses task s length)) ⌝ }
+{
+    let owner = byte_at(&p.owners, task as usize);
+    (word_at(&p.budgets, owner as usize) as u32) < length
+}
+
+// U
+fn judge_use(p: Plan, n: u32, task: u32, resource: u32, length: u32) -> Verdict
+    ensures { λ r. ⌜ r ≡ judgedRows p n (Line.Uses task resource length) ⌝ }
+{
+    if (p.tasks as u32) <= task {
+        return Verdict::NoSuchRow(n);
+    }
+    if (p.resources as u32) <= resource {
+        return Verdict::NoSuchRow(n);
+    }
+    if out_of_range(p, resource, length) {
+        return Verdict::OutOfRange(n);
+    }
+    if declared(p, task, resource) {
+        return Verdict::Twice(n);
+    }
+    if two_subsystems(p, task, resource) {
+        return Verdict::TwoSubsystems(n);
+    }
+    if above_budget(p, task, length) {
+        return Verdict::AboveBudget(n);
+    }
+    Verdict::Accepted
+}
+
+// 23 to 28, by the kind of the line.
+fn judge_rows(p: Plan, n: u32, l: Line) -> Verdict
+    ensures { λ r. ⌜ r ≡ judgedRows p n l ⌝ }
+{
+    match l {
+        Line::Subsystem { period, budget } => judge_subsystem(p.subsystems, n, period, budget),
+        Line::Task { subsystem } => judge_task(p.subsystems, p.tasks, n, subsystem),
+        Line::Resource { kind } => judge_resource(p.resources, n, kind),
+        Line::Uses {
+            task,
+            resource,
+            length,
+        } => judge_use(p, n, task, resource, length),
+        Line::Malformed => Verdict::Accepted,
+    }
+}
+
+// 21, then 22, then the others. last is the kind of the line before, n the number of this one.
+pub fn judge(p: Plan, last: u8, n: u32, l: Line) -> Verdict
+    ensures { λ r. ⌜ r ≡ judged p last n l ⌝ }
+{
+    let kind = kind_of(l);
+    if kind == 4 {
+        return Verdict::NotGrammar(n);
+    }
+    if kind < last {
+        return Verdict::KindOrder(n);
+    }
+    judge_rows(p, n, l)
+}
