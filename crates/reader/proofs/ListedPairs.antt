@@ -1,23 +1,21 @@
 -- The declared pairs of the plan read so far are the U lines above: kept by every line that meets its conditions.
 use mathlib.Core.Path.{_≡_, refl, sym, ap, _∙_}
 use mathlib.Core.Logic.{_⊎_, inl, inr, ⊎-elim}
-use mathlib.Core.Bool.{Bool, true, false, true≢false}
+use mathlib.Core.Bool.{true, false, true≢false}
 use mathlib.Core.List.{List, [], _∷_, _++_}
 use Prim.Native.Nat.{ℕ, _+_, _<_}
 use native.Mathlib.Nat.{not-suc-le-zero}
 use native.Mathlib.Omega.{arith}
-use lib.Dec.{eqb}
 use lib.ListN.{length, length-append}
-use borrow.Author.Tests.{eqb-true, eqb-false}
 use Rattle.below.proofs.Search.{last-or-before}
 use Rattle.plan.specs.declared.Plan.{Plan}
-use Rattle.plan.specs.Plan.{place, lengthOf, declares}
+use Rattle.plan.specs.Plan.{lengthOf, declares}
 use Rattle.reader.specs.declared.Line.{Line}
 use Rattle.reader.specs.declared.Line.the-variants.{Subsystem, Task, Resource, Uses, Malformed}
 use Rattle.reader.specs.Line.{kindOf}
 use Rattle.reader.specs.Reading.{emptyPlan, withSubsystem, withTask, withResource, withUse, withLine}
 use Rattle.reader.specs.Listed.{countOf, InOrder, Condition}
-use Rattle.reader.proofs.PlanShape.{place-task, place-resource, declares-not, declares-short, declares-same, resource-own, resource-else, use-own, use-else}
+use Rattle.reader.proofs.PlanShape.{same-or-apart, declares-not, declares-short, declares-same, resource-own, resource-else, use-own, use-else}
 use Rattle.reader.proofs.ListedRows.{no-resource-yet, lineAt-old, lineAt-new}
 use Rattle.reader.proofs.ListedTied.{use-short, Tables, UsedAt, Stands, Pairs, Tied, latest-empty, latest-line, tables-empty, tables-subsystem, tables-task, tables-resource, tables-use}
 
@@ -130,29 +128,24 @@ module _ (above : List Line) (p : Plan) (w : Tables above p) (h : Pairs above p)
       own : declares q t r ≡ true
       own = declares-short q t r (rw (use-own p t r m (w .shaped) (omega (arith, w .tasks-few)) (omega (arith, w .resources-few))) short)
 
-      same-task : (u v : ℕ) → v < p .resources → eqb (place u v) (place t r) ≡ true → u ≡ t
-      same-task u v c e = place-task u v t r (omega (arith, w .resources-few)) (omega (arith, w .resources-few)) (eqb-true (place u v) (place t r) e)
-
-      same-resource : (u v : ℕ) → v < p .resources → eqb (place u v) (place t r) ≡ true → v ≡ r
-      same-resource u v c e =
-          place-resource u v t r (omega (arith, w .resources-few)) (omega (arith, w .resources-few)) (eqb-true (place u v) (place t r) e)
-
-      -- of a pair, whether or not it is the new one
-      declared : (u v : ℕ) → v < p .resources → declares p u v ≡ true → (b : Bool) → eqb (place u v) (place t r) ≡ b → declares q u v ≡ true
-      declared u v c d true e = rw (same-task u v c e, same-resource u v c e) own
-      declared u v c d false e = declares-same q p u v (use-else p t r m u v (eqb-false (place u v) (place t r) e)) ∙ d
+      -- a pair is the new one, or is what it was
+      new-or-kept : (u v : ℕ) → v < p .resources → ((u ≡ t) × (v ≡ r)) ⊎ (declares q u v ≡ declares p u v)
+      new-or-kept u v c =
+          ⊎-elim inl (λ d. inr (declares-same q p u v (use-else p t r m u v d)))
+          (same-or-apart u v t r (omega (arith, w .resources-few)) (omega (arith, w .resources-few)))
 
       uses : (u v : ℕ) → UsedAt (above ++ (l ∷ [])) u v → Stands (withLine p l) u v
-      uses u v n = ⊎-elim old new (used-split above l u v n)
+      uses u v n = ⊎-elim (λ n. old (h .uses u v n)) new (used-split above l u v n)
         where
-          old : UsedAt above u v → Stands q u v
-          old n =
-              let s = h .uses u v n in
-              record {
-                task-there = s .task-there;
-                resource-there = s .resource-there;
-                declared = declared u v (s .resource-there) (s .declared) (eqb (place u v) (place t r)) refl;
-              }
+          old : Stands p u v → Stands q u v
+          old s = record {
+            task-there = s .task-there;
+            resource-there = s .resource-there;
+            declared = ⊎-elim declared (λ e. e ∙ s .declared) (new-or-kept u v (s .resource-there));
+          }
+            where
+              declared : (u ≡ t) × (v ≡ r) → declares q u v ≡ true
+              declared e = rw (e .0, e .1) own
 
           new : (k : ℕ) × (l ≡ Uses u v k) → Stands q u v
           new e =
@@ -162,17 +155,15 @@ module _ (above : List Line) (p : Plan) (w : Tables above p) (h : Pairs above p)
               record { task-there = rw tu at a; resource-there = rw rv at b; declared = rw (← tu, ← rv) own }
 
       used : (u v : ℕ) → Stands (withLine p l) u v → UsedAt (above ++ (l ∷ [])) u v
-      used u v s = go (eqb (place u v) (place t r)) refl
+      used u v s = ⊎-elim new old (new-or-kept u v (s .resource-there))
         where
-          go : (b : Bool) → eqb (place u v) (place t r) ≡ b → UsedAt (above ++ (l ∷ [])) u v
-          go true e = used-here above l u v m (rw (same-task u v (s .resource-there) e, same-resource u v (s .resource-there) e))
-          go false e =
+          new : (u ≡ t) × (v ≡ r) → UsedAt (above ++ (l ∷ [])) u v
+          new e = used-here above l u v m (rw (e .0, e .1))
+
+          old : declares q u v ≡ declares p u v → UsedAt (above ++ (l ∷ [])) u v
+          old e =
               used-more above l u v
-              (h .used u v (record {
-                task-there = s .task-there;
-                resource-there = s .resource-there;
-                declared = sym (declares-same q p u v (use-else p t r m u v (eqb-false (place u v) (place t r) e))) ∙ s .declared;
-              }))
+              (h .used u v (record { task-there = s .task-there; resource-there = s .resource-there; declared = sym e ∙ s .declared }))
 
 -- the whole of it
 
