@@ -1,2 +1,2 @@
-pub mod Words
-pub mod Block
+pub mod WordLaws
+pub mod BlockLaws
