@@ -1,24 +1,23 @@
 -- The plan block both ways: what a block reads as is written as the block again, and a plan's block reads as the plan.
 use mathlib.Core.Path.{_≡_, refl, sym, ap, ap₂, _∙_}
 use mathlib.Core.Bool.{Bool, true, false, _&&_, true≢false, and-eq-true-iff}
-use mathlib.Core.List.{List, [], _∷_, _++_, append-assoc, append-nil}
+use mathlib.Core.List.{List, [], _∷_, _++_, append-assoc}
 use Prim.Native.Nat.{ℕ, zero, suc, _+_, _*_, _/_, _%_, _≤_, _<_}
-use native.Mathlib.Nat.{add-assoc, add-zero, le-refl}
-use native.Mathlib.Numerals.{add-one}
+use native.Mathlib.Nat.{add-assoc}
 use native.Mathlib.Omega.{arith}
 use lib.Dec.{eqb}
-use lib.ListN.{length, set, getD, take, drop, length-append, length-take, length-drop, take-append-drop, List·getD-append}
-use lib.Seq.{take-suc, take-all, drop-cons, drop-drop, drop-at, getD-drop, getD-take, paste, take-paste, length-paste}
+use lib.ListN.{length, set, getD, take, drop, length-take, length-drop, take-append-drop, List·getD-append}
+use lib.Seq.{take-suc, take-all, drop-drop, drop-at, getD-drop, getD-take, paste, take-paste, length-paste}
 use borrow.Author.Tests.{eqb-true, eqb-false, eq-eqb, ne-eqb}
 use Rattle.below.specs.Listed.{listed, listedOnto}
-use Rattle.below.proofs.Listed.{length-listed, listed-suc, listed-is, listed-agree, listed-getD}
+use Rattle.below.proofs.Listed.{length-listed, listed-suc, listed-is}
 use Rattle.text.specs.Bytes.{same}
 use Rattle.plan.specs.declared.Plan.{Plan}
 use Rattle.plan.specs.Limits.{mostSubsystems, mostTasks, mostResources}
 use Rattle.plan.specs.Accepted.{accepted}
 use Rattle.image.specs.declared.Block.{Block}
 use Rattle.image.specs.Words.{word, words, byteAt, wordAt}
-use Rattle.image.specs.Block.{blockBytes, subsystemsAt, ownersAt, kindsAt, lengthsAt, subsystemWords, blockOf, planOf, isBlock, blockNumber}
+use Rattle.image.specs.Block.{blockBytes, subsystemWords, blockOf, planOf, isBlock, blockNumber}
 use Rattle.image.specs.BlockCalls.{blockRefused, blockRead}
 use Rattle.image.proofs.WordLaws.{HasWord, word-read, word-after, word-before, length-words, words-has, length-subsystemWords, periods-has, budgets-has}
 

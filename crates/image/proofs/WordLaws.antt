@@ -5,7 +5,7 @@ use Prim.Native.Nat.{ℕ, zero, suc, _+_, _*_, _/_, _%_, _≤_, _<_}
 use native.Mathlib.Nat.{add-assoc, mod-add-div, le-of-suc-le-suc, not-suc-le-zero, mul-suc, mul-le-mul-left}
 use native.Mathlib.Numerals.{add-one}
 use native.Mathlib.Omega.{arith}
-use lib.ListN.{length, getD, set, take, drop, List·getD-append}
+use lib.ListN.{length, getD, set, drop, List·getD-append}
 use lib.Seq.{paste, paste-suc, getD-drop}
 use Rattle.image.specs.Words.{word, words, byteAt, wordAt}
 use Rattle.image.specs.Block.{subsystemWords}

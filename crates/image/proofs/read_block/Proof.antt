@@ -12,29 +12,19 @@ use Rattle.image.proofs.BlockLaws.{is-block, number-34, number-31, numb
 use borrow.Author.Needs.{needs}
 use Rattle.image.proofs.read_block.Statement.{statement}
 use Rattle.image.proofs.read_block.Tie as tie
-use Rattle.image.proofs.read_block.Reads as reads
-use Rattle.image.proofs.read_block.Lts as lts
-use Rattle.image.proofs.read_plan.Reads as read-plan-reads
-use Rattle.image.proofs.refused.Reads as refused-reads
-use Rattle.plan.proofs.accepted.Reads as accepted-reads
 
--- src/lib.rt:75:9
 refused-requires : tie.Need-refused-requires
 refused-requires c κs = search needs
 
--- src/lib.rt:75:9
 returns : tie.Need-returns
 returns c = c .refused .ensures ∙ read-refused _ 34 (number-34 (now (c .before .before .before .args .b)) (c .before .if1 .taken)) refl
 
--- src/lib.rt:77:8
 shared-slice-read-if2 : tie.Need-shared-slice-read-if2
 shared-slice-read-if2 c = search needs
 
--- src/lib.rt:78:9
 refused-requires-2 : tie.Need-refused-requires-2
 refused-requires-2 c κs = search needs
 
--- src/lib.rt:78:9
 returns-2 : tie.Need-returns-2
 unfolding byteAt
 returns-2 c =
@@ -46,19 +36,15 @@ returns-2 c =
     (number-31 b e (is-block b e small ∙ rw (ne-eqb _ _ (c .before .if2 .taken)) (and-false (accepted (planOf b)))))
     refl
 
--- src/lib.rt:80:9
 read-plan-requires : tie.Need-read-plan-requires
 read-plan-requires c κs = search needs
 
--- src/lib.rt:81:9
 accepted-requires : tie.Need-accepted-requires
 accepted-requires c κs = search needs
 
--- src/lib.rt:82:9
 refused-requires-3 : tie.Need-refused-requires-3
 refused-requires-3 c κs = search needs
 
--- src/lib.rt:82:9
 returns-3 : tie.Need-returns-3
 unfolding byteAt
 returns-3 c =
@@ -69,7 +55,6 @@ returns-3 c =
     = ap accepted (sym (c .before .before .before .read-plan .ensures)) ∙ sym (c .before .before .accepted .ensures) ∙ not-true _ (c .before .if3 .taken) in
     c .refused3 .ensures ∙ read-refused b 31 (number-31 b e (is-block b e small ∙ rw no)) refl
 
--- src/lib.rt:71:1
 returns-4 : tie.Need-returns-4
 unfolding byteAt
 returns-4 c =

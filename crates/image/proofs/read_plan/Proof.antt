@@ -9,64 +9,46 @@ use Rattle.image.specs.Block.{planOf}
 use borrow.Author.Needs.{needs}
 use Rattle.image.proofs.read_plan.Statement.{statement}
 use Rattle.image.proofs.read_plan.Tie as tie
-use Rattle.image.proofs.read_plan.Reads as reads
-use Rattle.image.proofs.read_plan.Lts as lts
-use Rattle.image.proofs.words.read_bytes.Reads as read-bytes-reads
-use Rattle.image.proofs.words.read_words.Reads as read-words-reads
 
--- src/lib.rt:53:25
 slice-aggregate-read-words : tie.Need-slice-aggregate-read-words
 slice-aggregate-read-words c = search needs
 
--- src/lib.rt:53:5
 read-words-requires : tie.Need-read-words-requires
 read-words-requires c κs = search needs
 
--- src/lib.rt:54:25
 slice-aggregate-read-words-2 : tie.Need-slice-aggregate-read-words-2
 slice-aggregate-read-words-2 c = search needs
 
--- src/lib.rt:54:5
 read-words-requires-2 : tie.Need-read-words-requires-2
 read-words-requires-2 c κs = search needs
 
--- src/lib.rt:55:23
 slice-aggregate-read-bytes : tie.Need-slice-aggregate-read-bytes
 slice-aggregate-read-bytes c = search needs
 
--- src/lib.rt:55:5
 read-bytes-requires : tie.Need-read-bytes-requires
 read-bytes-requires c κs = search needs
 
--- src/lib.rt:56:23
 slice-aggregate-read-bytes-2 : tie.Need-slice-aggregate-read-bytes-2
 slice-aggregate-read-bytes-2 c = search needs
 
--- src/lib.rt:56:5
 read-bytes-requires-2 : tie.Need-read-bytes-requires-2
 read-bytes-requires-2 c κs = search needs
 
--- src/lib.rt:57:26
 slice-aggregate-read-words-3 : tie.Need-slice-aggregate-read-words-3
 slice-aggregate-read-words-3 c = search needs
 
--- src/lib.rt:57:5
 read-words-requires-3 : tie.Need-read-words-requires-3
 read-words-requires-3 c κs = search needs
 
--- src/lib.rt:59:21
 shared-slice-read-t19 : tie.Need-shared-slice-read-t19
 shared-slice-read-t19 c = search needs
 
--- src/lib.rt:60:16
 shared-slice-read-t21 : tie.Need-shared-slice-read-t21
 shared-slice-read-t21 c = search needs
 
--- src/lib.rt:61:20
 shared-slice-read-t23 : tie.Need-shared-slice-read-t23
 shared-slice-read-t23 c = search needs
 
--- src/lib.rt:44:1
 returns : tie.Need-returns
 unfolding planOf byteAt
 returns c =

@@ -3,10 +3,7 @@ use Rattle.reader.specs.Reading.{emptyPlan}
 use Rattle.image.specs.BlockCalls.{blockRefused}
 use Rattle.image.proofs.refused.Statement.{statement}
 use Rattle.image.proofs.refused.Tie as tie
-use Rattle.image.proofs.refused.Reads as reads
-use Rattle.image.proofs.refused.Lts as lts
 
--- src/lib.rt:23:1
 returns : tie.Need-returns
 unfolding blockRefused emptyPlan
 returns c = refl

@@ -9,11 +9,6 @@ use Rattle.image.proofs.BlockLaws.{Sized, written}
 use borrow.Author.Needs.{needs}
 use Rattle.image.proofs.write_block.Statement.{statement}
 use Rattle.image.proofs.write_block.Tie as tie
-use Rattle.image.proofs.write_block.Reads as reads
-use Rattle.image.proofs.write_block.Lts as lts
-use Rattle.image.proofs.words.write_bytes.Reads as write-bytes-reads
-use Rattle.image.proofs.words.write_subsystems.Reads as write-subsystems-reads
-use Rattle.image.proofs.words.write_words.Reads as write-words-reads
 
 sized : (c : tie.Start) → Sized (c .args .t1)
 sized c =
@@ -36,52 +31,41 @@ long-2 c = c .write-bytes .kept .1 .0 ∙ long-1 (c .before .before .before .bef
 long-3 : (c : tie.After-write-bytes2) → length (c .write-bytes2 .last .1 .0) ≡ blockBytes
 long-3 c = c .write-bytes2 .kept .1 .0 ∙ long-2 (c .before .before .before .before .before .before .before)
 
--- src/lib.rt:92:9
 returns : tie.Need-returns
 unfolding blockWritten
 returns c =
     let e = ne-eqb _ _ (c .if1 .taken) in
     (sym e, rw e)
 
--- src/lib.rt:94:5
 slice-write-block : tie.Need-slice-write-block
 slice-write-block c = search needs
 
--- src/lib.rt:95:5
 slice-write-block-2 : tie.Need-slice-write-block-2
 slice-write-block-2 c = search needs
 
--- src/lib.rt:96:5
 slice-write-block-3 : tie.Need-slice-write-block-3
 slice-write-block-3 c = simp length-set (omega arith)
 
--- src/lib.rt:97:5
 slice-write-block-4 : tie.Need-slice-write-block-4
 slice-write-block-4 c = simp length-set (omega arith)
 
--- src/lib.rt:98:5
 write-subsystems-requires : tie.Need-write-subsystems-requires
 write-subsystems-requires c κs =
     let z = sized (c .before .before .before .before .before .before .before .before) in
     (z .periods ∙ sym (z .budgets), simp length-set (omega (arith, z .periods, c .before .before .before .before .before .before .if1 .left)))
 
--- src/lib.rt:99:5
 write-bytes-requires : tie.Need-write-bytes-requires
 write-bytes-requires c κs = omega (arith, long-1 (c .before .before .before .before .before .before), sized (c .before .before .before .before .before .before .before .before .before .before .before .before .before .before .before) .owners)
 
--- src/lib.rt:100:5
 write-bytes-requires-2 : tie.Need-write-bytes-requires-2
 write-bytes-requires-2 c κs = omega (arith, long-2 (c .before .before .before .before .before .before), sized (c .before .before .before .before .before .before .before .before .before .before .before .before .before .before .before .before .before .before .before .before .before .before) .kinds)
 
--- src/lib.rt:101:5
 write-words-requires : tie.Need-write-words-requires
 write-words-requires c κs = omega (arith, long-3 (c .before .before .before .before .before .before), sized (c .before .before .before .before .before .before .before .before .before .before .before .before .before .before .before .before .before .before .before .before .before .before .before .before .before .before .before .before .before) .lengths)
 
--- src/lib.rt:88:1
 same-length : tie.Need-same-length
 same-length c = c .before .before .write-words .kept .1 .0 ∙ long-3 (c .before .before .before .before .before .before .before .before .before) ∙ sym (c .before .before .before .before .before .before .before .before .before .before .before .before .before .before .before .before .before .before .before .before .before .before .before .before .before .before .before .before .before .before .if1 .left)
 
--- src/lib.rt:88:1
 returns-2 : tie.Need-returns-2
 unfolding blockWritten
 returns-2 c =

@@ -4,38 +4,28 @@ use Rattle.image.specs.Words.{byteAt, wordAt}
 use borrow.Author.Needs.{needs}
 use Rattle.image.proofs.words.word_at.Statement.{statement}
 use Rattle.image.proofs.words.word_at.Tie as tie
-use Rattle.image.proofs.words.word_at.Reads as reads
-use Rattle.image.proofs.words.word_at.Lts as lts
 
--- src/words.rt:14:6
 shared-slice-read-result : tie.Need-shared-slice-read-result
 shared-slice-read-result c = search needs
 
--- src/words.rt:14:6
 cast-result : tie.Need-cast-result
 cast-result c = omega (arith, c .shared-slice-known .given (c .before .args .at))
 
--- src/words.rt:14:31
 add-result : tie.Need-add-result
 add-result c = search needs
 
--- src/words.rt:14:29
 shared-slice-read-result-2 : tie.Need-shared-slice-read-result-2
 shared-slice-read-result-2 c = search needs
 
--- src/words.rt:14:29
 cast-result-2 : tie.Need-cast-result-2
 cast-result-2 c = omega (arith, c .shared-slice-known2 .given (c .before .before .args .at + 1))
 
--- src/words.rt:14:22
 mul-result : tie.Need-mul-result
 mul-result c = omega (arith, c .shared-slice-known2 .given (c .before .before .args .at + 1))
 
--- src/words.rt:14:5
 add-result-2 : tie.Need-add-result-2
 add-result-2 c = omega (arith, c .before .shared-slice-known .given (c .before .before .args .at), c .shared-slice-known2 .given (c .before .before .args .at + 1))
 
--- src/words.rt:10:1
 returns : tie.Need-returns
 unfolding wordAt byteAt
 returns c = search needs

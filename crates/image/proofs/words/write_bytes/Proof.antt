@@ -1,16 +1,14 @@
 use denote.Ref.{now}
 use native.Mathlib.Omega.{arith}
 use borrow.Author.Needs.{needs}
-use mathlib.Core.Path.{_≡_, refl, sym, ap, _∙_}
-use Prim.Native.Nat.{ℕ, _+_, _*_, _-_, _≤_, _<_}
+use mathlib.Core.Path.{_≡_, refl, ap, _∙_}
+use Prim.Native.Nat.{ℕ, _+_, _-_, _≤_}
 use mathlib.Core.List.{List}
 use lib.ListN.{length, getD, set, length-set}
 use lib.Seq.{paste, paste-zero}
 use Rattle.image.proofs.WordLaws.{paste-byte}
 use Rattle.image.proofs.words.write_bytes.Statement.{statement}
 use Rattle.image.proofs.words.write_bytes.Tie as tie
-use Rattle.image.proofs.words.write_bytes.Reads as reads
-use Rattle.image.proofs.words.write_bytes.Lts as lts
 
 abbrev Inv-loop : tie.InvT-loop
 Inv-loop a block₀ at i₀ block i = (i ≤ length a) × (length block ≡ length block₀) × (block ≡ paste block₀ at a i)
@@ -18,33 +16,26 @@ Inv-loop a block₀ at i₀ block i = (i ≤ length a) × (length block ≡ leng
 abbrev μ-loop : tie.MeasureT-loop
 μ-loop a block₀ at i₀ block i = length a - i
 
--- src/words.rt:53:5
 loop-holds : tie.Need-loop-holds Inv-loop μ-loop
 loop-holds c =
     let a = c .args in
     (search needs, refl, paste-zero (now (a .block)) (a .at) (now (a .a)))
 
--- src/words.rt:54:25
 shared-slice-read-block : tie.Need-shared-slice-read-block Inv-loop μ-loop
 shared-slice-read-block c = omega arith
 
--- src/words.rt:54:15
 add-block : tie.Need-add-block Inv-loop μ-loop
 add-block c = omega arith
 
--- src/words.rt:54:9
 slice-write-block : tie.Need-slice-write-block Inv-loop μ-loop
 slice-write-block c = omega arith
 
--- src/words.rt:55:9
 add-i : tie.Need-add-i Inv-loop μ-loop
 add-i c = omega arith
 
--- src/words.rt:53:5
 loop-less : tie.Need-loop-less Inv-loop μ-loop
 loop-less c = omega arith
 
--- src/words.rt:53:5
 loop-again : tie.Need-loop-again Inv-loop μ-loop
 loop-again c =
     let a = c .before .before .before .args in
@@ -55,11 +46,9 @@ loop-again c =
           ∙ paste-byte (now (a .block)) (a .at) (now (a .a)) i (getD (now (a .a)) i 0) (omega arith) (omega arith) refl,
     )
 
--- src/words.rt:48:1
 same-length : tie.Need-same-length Inv-loop μ-loop
 same-length c = c .before .loop .inv .1
 
--- src/words.rt:48:1
 returns : tie.Need-returns Inv-loop μ-loop
 returns c =
     let e : c .before .loop .i ≡ length (now (c .before .before .args .a)) = omega arith in

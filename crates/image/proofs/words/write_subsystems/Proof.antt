@@ -1,18 +1,15 @@
 use denote.Ref.{now}
 use native.Mathlib.Omega.{arith}
 use borrow.Author.Needs.{needs}
-use mathlib.Core.Path.{_≡_, refl, sym, ap, _∙_}
-use Prim.Native.Nat.{ℕ, _+_, _*_, _-_, _/_, _%_, _≤_, _<_}
+use mathlib.Core.Path.{_≡_, refl, ap, _∙_}
+use Prim.Native.Nat.{ℕ, _+_, _*_, _-_, _/_, _%_, _≤_}
 use mathlib.Core.List.{List}
-use lib.ListN.{length, getD, set, length-set}
+use lib.ListN.{length, getD, set}
 use lib.Seq.{paste, paste-zero}
 use Rattle.image.specs.Block.{subsystemWords}
 use Rattle.image.proofs.WordLaws.{length-subsystemWords, periods-has, budgets-has, paste-words}
 use Rattle.image.proofs.words.write_subsystems.Statement.{statement}
 use Rattle.image.proofs.words.write_subsystems.Tie as tie
-use Rattle.image.proofs.words.write_subsystems.Reads as reads
-use Rattle.image.proofs.words.write_subsystems.Lts as lts
-use Rattle.image.proofs.words.put_word.Reads as put-word-reads
 
 abbrev Inv-loop : tie.InvT-loop
 Inv-loop periods budgets block₀ at s₀ block s = (s ≤ length periods) × (length block ≡ length block₀) × (block ≡ paste block₀ at (subsystemWords periods budgets) (4 * s))
@@ -20,65 +17,50 @@ Inv-loop periods budgets block₀ at s₀ block s = (s ≤ length periods) × (l
 abbrev μ-loop : tie.MeasureT-loop
 μ-loop periods budgets block₀ at s₀ block s = length periods - s
 
--- src/words.rt:76:5
 loop-holds : tie.Need-loop-holds Inv-loop μ-loop
 loop-holds c =
     let a = c .before .before .before .args in
     (search needs, refl, paste-zero (now (a .block)) (a .at) (subsystemWords (now (a .periods)) (now (a .budgets))))
 
--- src/words.rt:77:36
 mul-put-word : tie.Need-mul-put-word Inv-loop μ-loop
 mul-put-word c = omega arith
 
--- src/words.rt:77:31
 add-put-word : tie.Need-add-put-word Inv-loop μ-loop
 add-put-word c = omega arith
 
--- src/words.rt:77:43
 mul-put-word-2 : tie.Need-mul-put-word-2 Inv-loop μ-loop
 mul-put-word-2 c = omega arith
 
--- src/words.rt:77:43
 shared-slice-read-put-word : tie.Need-shared-slice-read-put-word Inv-loop μ-loop
 shared-slice-read-put-word c = omega arith
 
--- src/words.rt:77:9
 put-word-requires : tie.Need-put-word-requires Inv-loop μ-loop
 put-word-requires c κs = search needs
 
--- src/words.rt:78:36
 mul-put-word-3 : tie.Need-mul-put-word-3 Inv-loop μ-loop
 mul-put-word-3 c = omega arith
 
--- src/words.rt:78:31
 add-put-word-2 : tie.Need-add-put-word-2 Inv-loop μ-loop
 add-put-word-2 c = omega arith
 
--- src/words.rt:78:31
 add-put-word-3 : tie.Need-add-put-word-3 Inv-loop μ-loop
 add-put-word-3 c = omega arith
 
--- src/words.rt:78:47
 mul-put-word-4 : tie.Need-mul-put-word-4 Inv-loop μ-loop
 mul-put-word-4 c = omega arith
 
--- src/words.rt:78:47
 shared-slice-read-put-word-2 : tie.Need-shared-slice-read-put-word-2 Inv-loop μ-loop
 shared-slice-read-put-word-2 c = omega arith
 
--- src/words.rt:78:9
 put-word-requires-2 : tie.Need-put-word-requires-2 Inv-loop μ-loop
 put-word-requires-2 c κs = search needs
 
--- src/words.rt:79:9
 add-s : tie.Need-add-s Inv-loop μ-loop
 add-s c = omega arith
 
--- src/words.rt:76:5
 loop-less : tie.Need-loop-less Inv-loop μ-loop
 loop-less c = omega arith
 
--- src/words.rt:76:5
 loop-again : tie.Need-loop-again Inv-loop μ-loop
 loop-again c =
     let a = c .before .before .before .before .before .before .before .before .before .before .before .before .before .before .before .args in
@@ -101,11 +83,9 @@ loop-again c =
           ∙ ap (paste (now (a .block)) (a .at) (subsystemWords ps qs)) four,
     )
 
--- src/words.rt:71:1
 same-length : tie.Need-same-length Inv-loop μ-loop
 same-length c = c .before .loop .inv .1
 
--- src/words.rt:71:1
 returns : tie.Need-returns Inv-loop μ-loop
 returns c =
     let e : c .before .loop .s ≡ length (now (c .before .before .before .before .before .args .periods)) = omega arith in

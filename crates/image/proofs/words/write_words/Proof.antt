@@ -1,18 +1,15 @@
 use denote.Ref.{now}
 use native.Mathlib.Omega.{arith}
 use borrow.Author.Needs.{needs}
-use mathlib.Core.Path.{_≡_, refl, sym, ap, _∙_}
-use Prim.Native.Nat.{ℕ, _+_, _*_, _-_, _/_, _%_, _≤_, _<_}
+use mathlib.Core.Path.{_≡_, refl, ap, _∙_}
+use Prim.Native.Nat.{ℕ, _+_, _*_, _-_, _/_, _%_, _≤_}
 use mathlib.Core.List.{List}
-use lib.ListN.{length, getD, set, length-set}
+use lib.ListN.{length, getD, set}
 use lib.Seq.{paste, paste-zero}
 use Rattle.image.specs.Words.{words}
 use Rattle.image.proofs.WordLaws.{length-words, words-has, paste-word}
 use Rattle.image.proofs.words.write_words.Statement.{statement}
 use Rattle.image.proofs.words.write_words.Tie as tie
-use Rattle.image.proofs.words.write_words.Reads as reads
-use Rattle.image.proofs.words.write_words.Lts as lts
-use Rattle.image.proofs.words.put_word.Reads as put-word-reads
 
 abbrev Inv-loop : tie.InvT-loop
 Inv-loop a block₀ at i₀ block i = (i ≤ length a) × (length block ≡ length block₀) × (block ≡ paste block₀ at (words a) (2 * i))
@@ -20,41 +17,32 @@ Inv-loop a block₀ at i₀ block i = (i ≤ length a) × (length block ≡ leng
 abbrev μ-loop : tie.MeasureT-loop
 μ-loop a block₀ at i₀ block i = length a - i
 
--- src/words.rt:64:5
 loop-holds : tie.Need-loop-holds Inv-loop μ-loop
 loop-holds c =
     let a = c .before .before .args in
     (search needs, refl, paste-zero (now (a .block)) (a .at) (words (now (a .a))))
 
--- src/words.rt:65:36
 mul-put-word : tie.Need-mul-put-word Inv-loop μ-loop
 mul-put-word c = omega arith
 
--- src/words.rt:65:31
 add-put-word : tie.Need-add-put-word Inv-loop μ-loop
 add-put-word c = omega arith
 
--- src/words.rt:65:43
 mul-put-word-2 : tie.Need-mul-put-word-2 Inv-loop μ-loop
 mul-put-word-2 c = omega arith
 
--- src/words.rt:65:43
 shared-slice-read-put-word : tie.Need-shared-slice-read-put-word Inv-loop μ-loop
 shared-slice-read-put-word c = omega arith
 
--- src/words.rt:65:9
 put-word-requires : tie.Need-put-word-requires Inv-loop μ-loop
 put-word-requires c κs = search needs
 
--- src/words.rt:66:9
 add-i : tie.Need-add-i Inv-loop μ-loop
 add-i c = omega arith
 
--- src/words.rt:64:5
 loop-less : tie.Need-loop-less Inv-loop μ-loop
 loop-less c = omega arith
 
--- src/words.rt:64:5
 loop-again : tie.Need-loop-again Inv-loop μ-loop
 loop-again c =
     let a = c .before .before .before .before .before .before .before .before .before .args in
@@ -70,11 +58,9 @@ loop-again c =
           ∙ ap (paste (now (a .block)) (a .at) (words (now (a .a)))) two,
     )
 
--- src/words.rt:59:1
 same-length : tie.Need-same-length Inv-loop μ-loop
 same-length c = c .before .loop .inv .1
 
--- src/words.rt:59:1
 returns : tie.Need-returns Inv-loop μ-loop
 returns c =
     let e : c .before .loop .i ≡ length (now (c .before .before .before .before .args .a)) = omega arith in
