@@ -1,3 +1,5 @@
-pub mod Words
 pub mod Block
+pub mod BlockLaws
 pub mod Exactly
+pub mod WordLaws
+pub mod Words

@@ -2,10 +2,10 @@
 use mathlib.Core.Path.{_≡_, refl, sym, ap, ap₂, _∙_}
 use mathlib.Core.List.{List, [], _∷_, _++_}
 use Prim.Native.Nat.{ℕ, zero, suc, _+_, _*_, _/_, _%_, _≤_, _<_}
-use native.Mathlib.Nat.{add-assoc, mod-add-div, le-of-suc-le-suc, not-suc-le-zero}
+use native.Mathlib.Nat.{add-assoc, mod-add-div, le-of-suc-le-suc, not-suc-le-zero, mul-suc, mul-le-mul-left}
 use native.Mathlib.Numerals.{add-one}
 use native.Mathlib.Omega.{arith}
-use lib.ListN.{length, getD, set, take, drop, List·getD-append}
+use lib.ListN.{length, getD, set, drop, List·getD-append}
 use lib.Seq.{paste, paste-suc, getD-drop}
 use Rattle.image.specs.Words.{word, words, byteAt, wordAt}
 use Rattle.image.specs.Block.{subsystemWords}
@@ -99,3 +99,18 @@ paste-word d at s j w hd hs h =
     ∙ ap (λ (k : ℕ). set (paste d at s (j + 1)) k (w / 256)) (add-assoc at j 1)
     ∙ paste-byte d at s (j + 1) (w / 256) (omega arith) hs (h .high)
     ∙ ap (paste d at s) (add-assoc j 1 1)
+
+-- and of two words in turn
+pub paste-words : (d : List ℕ) (at : ℕ) (s : List ℕ) (j v w : ℕ) → at + j + 4 ≤ length d → j + 4 ≤ length s → HasWord s j v → HasWord s (j + 2) w
+    → set (set (set (set (paste d at s j) (at + j) (v % 256)) (at + j + 1) (v / 256)) (at + j + 2) (w % 256)) (at + j + 2 + 1) (w / 256)
+    ≡ paste d at s (j + 4)
+paste-words d at s j v w hd hs hv hw =
+    ap₂ (λ (l : List ℕ) (k : ℕ). set (set l k (w % 256)) (k + 1) (w / 256))
+    (paste-word d at s j v (omega arith) (omega arith) hv)
+    (add-assoc at j 2)
+    ∙ paste-word d at s (j + 2) w (omega arith) (omega arith) hw
+    ∙ ap (paste d at s) (add-assoc j 2 2)
+
+-- steps: the one of number i, below n, ends within n of them
+pub stepped : (i n step : ℕ) → i < n → step * i + step ≤ step * n
+stepped i n step h = rw (← mul-suc) (mul-le-mul-left step h)

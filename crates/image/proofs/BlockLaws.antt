@@ -1,23 +1,25 @@
 -- The plan block both ways: what a block reads as is written as the block again, and a plan's block reads as the plan.
 use mathlib.Core.Path.{_≡_, refl, sym, ap, ap₂, _∙_}
-use mathlib.Core.Bool.{Bool, true, false, true≢false, and-eq-true-iff}
-use mathlib.Core.List.{List, [], _∷_, _++_, append-assoc, append-nil}
+use mathlib.Core.Bool.{Bool, true, false, _&&_, true≢false, and-eq-true-iff}
+use mathlib.Core.List.{List, [], _∷_, _++_, append-assoc}
 use Prim.Native.Nat.{ℕ, zero, suc, _+_, _*_, _/_, _%_, _≤_, _<_}
-use native.Mathlib.Nat.{add-assoc, add-zero, le-refl}
-use native.Mathlib.Numerals.{add-one}
+use native.Mathlib.Nat.{add-assoc}
 use native.Mathlib.Omega.{arith}
 use lib.Dec.{eqb}
-use lib.ListN.{length, getD, take, drop, length-append, length-take, length-drop, take-append-drop, List·getD-append}
-use lib.Seq.{take-suc, take-all, drop-cons, drop-drop, drop-at, getD-drop, getD-take}
-use borrow.Author.Tests.{eqb-true, eqb-false, eq-eqb}
+use lib.ListN.{length, set, getD, take, drop, length-take, length-drop, take-append-drop, List·getD-append}
+use lib.Seq.{take-suc, take-all, drop-drop, drop-at, getD-drop, getD-take, paste, take-paste, length-paste}
+use borrow.Author.Tests.{eqb-true, eqb-false, eq-eqb, ne-eqb}
 use Rattle.below.specs.Listed.{listed, listedOnto}
-use Rattle.below.proofs.Listed.{length-listed, listed-suc, listed-is, listed-agree, listed-getD}
+use Rattle.below.proofs.Listed.{length-listed, listed-suc, listed-is}
 use Rattle.text.specs.Bytes.{same}
 use Rattle.plan.specs.declared.Plan.{Plan}
 use Rattle.plan.specs.Limits.{mostSubsystems, mostTasks, mostResources}
+use Rattle.plan.specs.Accepted.{accepted}
+use Rattle.image.specs.declared.Block.{Block}
 use Rattle.image.specs.Words.{word, words, byteAt, wordAt}
-use Rattle.image.specs.Block.{blockBytes, subsystemsAt, ownersAt, kindsAt, lengthsAt, subsystemWords, blockOf, planOf}
-use Rattle.image.proofs.Words.{HasWord, word-read, word-after, word-before, length-words, words-has, length-subsystemWords, periods-has, budgets-has}
+use Rattle.image.specs.Block.{blockBytes, subsystemWords, blockOf, planOf, isBlock, blockNumber}
+use Rattle.image.specs.BlockCalls.{blockRefused, blockRead}
+use Rattle.image.proofs.WordLaws.{HasWord, word-read, word-after, word-before, length-words, words-has, length-subsystemWords, periods-has, budgets-has}
 
 -- sections that grow at their end
 
@@ -229,3 +231,96 @@ same-block b e small = go (eqb (byteAt b 3) 0) refl (same (blockOf (planOf b)) b
     go false et true eu =
         absurd (eqb-false (byteAt b 3) 0 et (ap (λ (l : List ℕ). byteAt l 3) (sym (same-true (blockOf (planOf b)) b eu)) ∙ third (planOf b)))
     go false et false eu = refl
+
+-- what the code tests of a block: its length, byte 3, and that its plan is accepted
+
+pub is-block : (b : List ℕ) → length b ≡ blockBytes → ((k : ℕ) → getD b k 0 < 256) → isBlock b ≡ (accepted (planOf b) && eqb (byteAt b 3) 0)
+unfolding isBlock
+is-block b e small = ap (λ (t : Bool). accepted (planOf b) && t) (same-block b e small)
+
+abbrev picked : Bool → Bool → ℕ
+picked long block = elim long [ false ↦ 34 | true ↦ elim block [ false ↦ 31 | true ↦ 0 ] ]
+
+pub number-34 : (b : List ℕ) → (length b ≡ blockBytes → ⊥) → blockNumber b ≡ 34
+unfolding blockNumber
+number-34 b h = ap (λ (long : Bool). picked long (isBlock b)) (ne-eqb (length b) blockBytes h)
+
+pub number-31 : (b : List ℕ) → length b ≡ blockBytes → isBlock b ≡ false → blockNumber b ≡ 31
+unfolding blockNumber
+number-31 b e f = ap₂ picked (eq-eqb (length b) blockBytes e) f
+
+pub number-0 : (b : List ℕ) → length b ≡ blockBytes → isBlock b ≡ true → blockNumber b ≡ 0
+unfolding blockNumber
+number-0 b e t = ap₂ picked (eq-eqb (length b) blockBytes e) t
+
+pub read-refused : (b : List ℕ) (n : ℕ) → blockNumber b ≡ n → eqb n 0 ≡ false → blockRefused n ≡ blockRead b
+unfolding blockRead
+read-refused b n e f = rw (e, f)
+
+pub read-accepted : (b : List ℕ) → blockNumber b ≡ 0 → _≡_ {A = Block} (record { number = 0; plan = planOf b }) (blockRead b)
+unfolding blockRead
+read-accepted b e = rw e
+
+-- writing a block section by section: the first n bytes of a buffer of the block's length are w
+record Begun (d : List ℕ) (n : ℕ) (w : List ℕ) : Type 0 where
+  begins : take n d ≡ w
+  long : length d ≡ blockBytes
+
+begun-next : (d : List ℕ) (n : ℕ) (w s : List ℕ) (k : ℕ) → Begun d n w → length s ≡ k → n + k ≤ blockBytes → Begun (paste d n s k) (n + k) (w ++ s)
+begun-next d n w s k b e h =
+    record {
+      begins = take-paste d n s k (omega (arith, b .long)) (omega arith) ∙ ap₂ _++_ (b .begins) (take-all k s (omega arith));
+      long = length-paste d n s k (omega (arith, b .long)) (omega arith) ∙ b .long;
+    }
+
+begun-first : (d : List ℕ) (a b c : ℕ) → length d ≡ blockBytes → Begun (set (set (set (set d 0 a) 1 b) 2 c) 3 0) 4 (a ∷ b ∷ c ∷ 0 ∷ [])
+begun-first [] a b c e = absurd (omega arith)
+begun-first (x ∷ []) a b c e = absurd (omega arith)
+begun-first (x ∷ y ∷ []) a b c e = absurd (omega arith)
+begun-first (x ∷ y ∷ z ∷ []) a b c e = absurd (omega arith)
+begun-first (x ∷ y ∷ z ∷ u ∷ d) a b c e = record { begins = refl; long = e }
+
+abbrev counted : Plan → List ℕ → List ℕ
+counted p d = set (set (set (set d 0 (p .subsystems)) 1 (p .tasks)) 2 (p .resources)) 3 0
+
+pub written : (p : Plan) → Sized p → (d : List ℕ) → length d ≡ blockBytes
+    → paste
+    (paste
+    (paste (paste (counted p d) 4 (subsystemWords (p .periods) (p .budgets)) (4 * length (p .periods))) 36 (p .owners) (length (p .owners)))
+    68 (p .kinds) (length (p .kinds)))
+    84 (words (p .lengths)) (2 * length (p .lengths))
+    ≡ blockOf p
+unfolding blockOf
+written p sized d e =
+    rw (sized .periods, sized .owners, sized .kinds, sized .lengths)
+    (sym (take-all blockBytes d4 (omega (arith, b4 .long))) ∙ b4 .begins ∙ simp append-assoc)
+  where
+    d1 : List ℕ
+    d1 = paste (counted p d) 4 (subsystemWords (p .periods) (p .budgets)) 32
+
+    b1 : Begun d1 36 (p .subsystems ∷ p .tasks ∷ p .resources ∷ 0 ∷ subsystemWords (p .periods) (p .budgets))
+    b1 =
+        begun-next (counted p d) 4 (p .subsystems ∷ p .tasks ∷ p .resources ∷ 0 ∷ []) (subsystemWords (p .periods) (p .budgets)) 32
+        (begun-first d (p .subsystems) (p .tasks) (p .resources) e)
+        (subsystems-long p sized)
+        (omega arith)
+
+    d2 : List ℕ
+    d2 = paste d1 36 (p .owners) 32
+
+    d3 : List ℕ
+    d3 = paste d2 68 (p .kinds) 16
+
+    d4 : List ℕ
+    d4 = paste d3 84 (words (p .lengths)) 1024
+
+    all-long : length (words (p .lengths)) ≡ 1024
+    all-long = omega (arith, length-words (p .lengths), sized .lengths)
+
+    b4 : Begun d4 blockBytes
+        ((((p .subsystems ∷ p .tasks ∷ p .resources ∷ 0 ∷ subsystemWords (p .periods) (p .budgets)) ++ p .owners) ++ p .kinds) ++ words (p .lengths))
+    b4 =
+        begun-next d3 84 _ (words (p .lengths)) 1024
+        (begun-next d2 68 _ (p .kinds) 16 (begun-next d1 36 _ (p .owners) 32 b1 (sized .owners) (omega arith)) (sized .kinds) (omega arith))
+        all-long
+        (omega arith)
