@@ -1,5 +1,3 @@
-pub mod Block
 pub mod BlockLaws
 pub mod Exactly
 pub mod WordLaws
-pub mod Words
