@@ -1,3 +1,5 @@
 pub mod Fields
 pub mod Letters
 pub mod Judged
+pub mod Room
+pub mod Onward

@@ -1,6 +1,8 @@
 mod build;
 pub mod grammar;
 mod judge;
+mod lines;
+pub mod numbers;
 
 use plan::Plan;
 
