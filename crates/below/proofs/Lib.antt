@@ -1,3 +1,5 @@
 pub mod Search
 pub mod Amounts
 pub mod Quotient
+pub mod Listed
+pub mod Loops

@@ -3,3 +3,4 @@ pub mod Plan
 pub mod Ceiling
 pub mod Admission
 pub mod Accepted
+pub mod Lent
