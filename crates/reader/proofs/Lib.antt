@@ -3,3 +3,4 @@ pub mod Letters
 pub mod Judged
 pub mod Room
 pub mod Onward
+pub mod Answers

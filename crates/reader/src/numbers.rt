@@ -1,6 +1,8 @@
 // "Admission", its table: the number of each verdict, and the number returned beside it.
 ghost use mathlib.Core.Path.{_≡_};
+ghost use Rattle.reader.specs.declared.Reading.{Reading};
 ghost use Rattle.reader.specs.Numbers.{number, beside, isAccepted};
+ghost use Rattle.reader.specs.Margin.{hasMargins};
 use crate::Verdict;
 
 pub fn number(v: Verdict) -> u32
@@ -45,4 +47,15 @@ pub fn is_accepted(v: Verdict) -> bool
     ensures { λ r. ⌜ r ≡ isAccepted v ⌝ }
 {
     number(v) == 0
+}
+
+// No refusal but 30.
+pub fn has_margins(v: Verdict) -> bool
+    ensures { λ b. ⌜ ((r : Reading) → r .verdict ≡ v → b ≡ hasMargins r) ⌝ }
+{
+    let n = number(v);
+    if n == 0 {
+        return true;
+    }
+    n == 30
 }
