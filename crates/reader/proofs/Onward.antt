@@ -1,25 +1,23 @@
 -- Laws of reading on: the next line of a text at a place, as the code finds it.
 use mathlib.Core.Path.{_≡_, refl, sym, ap, _∙_}
-use mathlib.Core.Bool.{Bool, true, false}
+use mathlib.Core.Bool.{true, false}
 use mathlib.Core.List.{List, [], _∷_}
-use mathlib.Core.Option.{Option, none, some}
+use mathlib.Core.Option.{none, some}
 use Prim.Native.Nat.{ℕ, suc, _+_, _-_, _≤_, _<_}
 use native.Mathlib.Omega.{arith}
 use lib.ListN.{length, take, drop, length-drop, drop-of-length-le}
 use lib.Seq.{drop-drop}
 use Rattle.text.specs.Lines.{until, lines, body, fields, lineFeed}
-use Rattle.text.proofs.Parted.{Parted, Whole, parted, whole}
+use Rattle.text.proofs.Parted.{Parted, parted, whole}
 use Rattle.text.proofs.Lines.{lines-feed, lines-whole, body-feed, body-whole}
 use Rattle.plan.specs.declared.Plan.{Plan}
-use Rattle.reader.specs.declared.Verdict.{Verdict}
 use Rattle.reader.specs.declared.Verdict.the-variants.{Accepted, NotGrammar}
 use Rattle.reader.specs.declared.Line.{Line}
 use Rattle.reader.specs.declared.Line.the-variants.{Malformed}
-use Rattle.reader.specs.declared.Reading.{Reading}
 use Rattle.reader.specs.Numbers.{isAccepted}
 use Rattle.reader.specs.Line.{ofFields, lineOf, kindOf}
 use Rattle.reader.specs.Conditions.{notGrammar}
-use Rattle.reader.specs.Reading.{judged, firstOf, withLine, refused, readFrom}
+use Rattle.reader.specs.Reading.{judged, withLine, refused, readFrom}
 use Rattle.reader.proofs.Judged.{judged-grammar}
 
 -- a line with its line feed is read as its body is, one without as nothing

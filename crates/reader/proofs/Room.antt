@@ -1,8 +1,8 @@
 -- A line that was accepted has room in the plan, and leaves no more rows than may be.
 use mathlib.Core.Path.{_≡_, refl, sym, ap, _∙_}
-use mathlib.Core.Bool.{Bool, true, false, not, _&&_, _||_, cond, true≢false, false≢true, and-eq-true-iff}
-use mathlib.Core.List.{List, [], _∷_}
-use Prim.Native.Nat.{ℕ, _+_, _≤_, _<_}
+use mathlib.Core.Bool.{Bool, true, false, _&&_, _||_, cond, true≢false, false≢true, and-eq-true-iff}
+use mathlib.Core.List.{List, _∷_}
+use Prim.Native.Nat.{ℕ, _≤_}
 use native.Mathlib.Omega.{arith}
 use lib.Dec.{leb, eqb}
 use borrow.Author.Tests.{leb-true, leb-false, eqb-true, not-false}
@@ -14,7 +14,7 @@ use Rattle.reader.specs.declared.Verdict.the-variants.{Accepted, TooLong
 use Rattle.reader.specs.declared.Line.{Line}
 use Rattle.reader.specs.declared.Line.the-variants.{Subsystem, Task, Resource, Uses, Malformed}
 use Rattle.reader.specs.Numbers.{isAccepted}
-use Rattle.reader.specs.Conditions.{notGrammar, kindOrder, tooManyRows, noSuchRow, outOfRange, twice, twoSubsystems, aboveBudget}
+use Rattle.reader.specs.Conditions.{tooManyRows, noSuchRow, outOfRange}
 use Rattle.reader.specs.Reading.{emptyPlan, firstOf, judged, withSubsystem, withTask, withResource, withUse, withLine}
 use Rattle.reader.specs.Room.{Counts, Room}
 

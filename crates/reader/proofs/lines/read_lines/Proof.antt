@@ -1,7 +1,7 @@
 -- `reader::lines::read_lines` meets its contract. The loop's invariant: reading on from `at` gives what reading the whole text gives, the plan
 -- has no more rows than may be, and there are no more lines than bytes. The measure is what is left.
 use mathlib.Core.Path.{_≡_, sym, ap, ap₂, subst, _∙_}
-use mathlib.Core.Bool.{true, false}
+use mathlib.Core.Bool.{true}
 use Prim.Native.Nat.{_+_, _-_, _≤_}
 use native.Mathlib.Omega.{arith}
 use lib.ListN.{length, drop}
