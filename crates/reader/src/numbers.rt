@@ -2,7 +2,8 @@
 ghost use mathlib.Core.Path.{_≡_};
 ghost use mathlib.Core.Bool.{_||_};
 ghost use lib.Dec.{eqb};
-ghost use Rattle.reader.specs.Numbers.{number, beside, isAccepted};
+ghost use Rattle.reader.specs.Numbers.{number, beside, isAccepted, askedNumber, askedValue};
+use crate::Asked;
 use crate::Verdict;
 
 pub fn number(v: Verdict) -> u32
@@ -58,4 +59,26 @@ pub fn has_margins(v: Verdict) -> bool
         return true;
     }
     n == 30
+}
+
+// What a host is told of a margin: 0, 24 for a row the plan lacks, or the plan's refusal.
+pub fn asked_number(a: Asked) -> u32
+    ensures { λ r. ⌜ r ≡ askedNumber a ⌝ }
+{
+    match a {
+        Asked::Margin(_) => 0,
+        Asked::NoRow => 24,
+        Asked::Refused(v) => number(v),
+    }
+}
+
+// The margin, or the number beside the refusal in its place.
+pub fn asked_value(a: Asked) -> i64
+    ensures { λ r. ⌜ r ≡ askedValue a ⌝ }
+{
+    match a {
+        Asked::Margin(m) => m,
+        Asked::NoRow => 0,
+        Asked::Refused(v) => beside(v) as i64,
+    }
 }
