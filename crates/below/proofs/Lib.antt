@@ -1,3 +1,7 @@
 pub mod Search
 pub mod Amounts
 pub mod Quotient
+pub mod Listed
+pub mod Loops
+pub mod Entries
+pub mod Least

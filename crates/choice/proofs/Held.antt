@@ -1,0 +1,43 @@
+-- What a state says of one task, by the tests that the code makes: where its held resources stand, whether it is in a section, whether it runs.
+use mathlib.Core.Path.{_≡_}
+use mathlib.Core.Bool.{false}
+use Prim.Native.Nat.{ℕ, _+_, _*_, _≤_, _<_}
+use native.Mathlib.Omega.{arith}
+use lib.ListN.{getD, List·getD-eq-default}
+use borrow.Author.Tests.{le-leb, lt-leb, eq-eqb, ne-eqb}
+use Rattle.below.specs.Listed.{listed}
+use Rattle.below.proofs.Listed.{length-listed, getD-listed}
+use Rattle.plan.specs.declared.Plan.{Plan}
+use Rattle.plan.specs.Limits.{noRow}
+use Rattle.plan.specs.Plan.{isGlobal}
+use Rattle.state.specs.declared.Task.{Task}
+use Rattle.state.specs.declared.State.{State}
+use Rattle.state.specs.State.{mostHeld, taskAt, heldAt, heldPlace, lastHeld, inSection, isWaiting}
+use Rattle.choice.specs.Choice.{runs}
+
+module _ (s : State) (k i : ℕ) where
+  pub held-there : i < mostHeld → heldAt (taskAt s k) i ≡ getD (s .held) (k * 4 + i) noRow
+  unfolding heldAt taskAt heldPlace
+  held-there h = getD-listed mostHeld (λ j. getD (s .held) (heldPlace k j) noRow) i noRow h
+
+  pub held-past : mostHeld ≤ i → heldAt (taskAt s k) i ≡ noRow
+  unfolding heldAt taskAt heldPlace
+  held-past h = List·getD-eq-default (listed mostHeld (λ j. getD (s .held) (heldPlace k j) noRow)) noRow (rw length-listed h)
+
+module _ (p : Plan) (t : Task) where
+  pub section-none : t .count ≡ 0 → inSection p t ≡ false
+  unfolding inSection
+  section-none e = rw (inSection, lt-leb 1 (t .count) (omega arith))
+
+  pub section-some : 1 ≤ t .count → inSection p t ≡ isGlobal p (lastHeld t)
+  unfolding inSection
+  section-some h = rw (inSection, le-leb 1 (t .count) h)
+
+module _ (s : State) (k : ℕ) where
+  pub runs-waiting : taskAt s k .condition ≡ 3 → runs s k ≡ noRow
+  unfolding runs isWaiting
+  runs-waiting e = rw (runs, isWaiting, eq-eqb _ 3 e)
+
+  pub runs-other : (taskAt s k .condition ≡ 3 → ⊥) → runs s k ≡ k
+  unfolding runs isWaiting
+  runs-other h = rw (runs, isWaiting, ne-eqb _ 3 h)

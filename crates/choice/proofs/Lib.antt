@@ -1,0 +1,4 @@
+pub mod Held
+pub mod Columns
+pub mod Found
+pub mod Ready
