@@ -6,11 +6,13 @@ use Prim.Native.Nat.{ℕ, _≤_, _<_}
 use lib.Dec.{ltb, eqb}
 use lib.ListN.{getD}
 use borrow.Author.Tests.{lt-ltb, le-ltb, eq-eqb, ne-eqb}
+use Rattle.below.specs.Below.{first}
 use Rattle.plan.specs.Limits.{noRow}
 use Rattle.plan.specs.Plan.{isGlobal}
-use Rattle.state.specs.State.{taskAt, isReady, isActive, isStarted, isWaiting, heldAt, lastHeld, inSection}
+use Rattle.state.specs.declared.BudgetLeft.{BudgetLeft}
+use Rattle.state.specs.State.{taskAt, hasBudget, isReady, isActive, isStarted, isWaiting, heldAt, lastHeld, inSection}
 use Rattle.choice.specs.Choice.{orNoRow}
-use Rattle.choice.specs.Columns.{planOf, stateOf, sectionCeiling, localAt, belowHeld, belowHeldIn, keeps, keepsIn, takenBelow}
+use Rattle.choice.specs.Columns.{planOf, stateOf, sectionCeiling, ownerOf, chosenBy, localAt, belowHeld, belowHeldIn, keeps, keepsIn, takenBelow}
 
 pub row-there : (n k : ℕ) → k < n → orNoRow n k ≡ k
 unfolding orNoRow
@@ -19,6 +21,23 @@ row-there n k h = rw (orNoRow, lt-ltb k n h)
 pub row-past : (n k : ℕ) → n ≤ k → orNoRow n k ≡ noRow
 unfolding orNoRow
 row-past n k h = rw (orNoRow, le-ltb k n h)
+
+pub owner-none : (owners : List ℕ) (h : ℕ) → h ≡ noRow → ownerOf owners h ≡ noRow
+unfolding ownerOf
+owner-none owners h e = rw (ownerOf, eq-eqb h noRow e)
+
+pub owner-there : (owners : List ℕ) (h : ℕ) → (h ≡ noRow → ⊥) → ownerOf owners h ≡ getD owners h 0
+unfolding ownerOf
+owner-there owners h e = rw (ownerOf, ne-eqb h noRow e)
+
+module _ (owners : List ℕ) (left : List BudgetLeft) (m h : ℕ) where
+  pub chosen-budget : first m (hasBudget (stateOf left [] [] [])) < m → chosenBy owners left m h ≡ first m (hasBudget (stateOf left [] [] []))
+  unfolding chosenBy
+  chosen-budget l = rw (chosenBy, lt-ltb (first m (hasBudget (stateOf left [] [] []))) m l)
+
+  pub chosen-holder : m ≤ first m (hasBudget (stateOf left [] [] [])) → chosenBy owners left m h ≡ ownerOf owners h
+  unfolding chosenBy
+  chosen-holder l = rw (chosenBy, le-ltb (first m (hasBudget (stateOf left [] [] []))) m l)
 
 module _ (kinds ceilings counts held : List ℕ) (k : ℕ) where
   pub ceiling-in : inSection (planOf 0 [] kinds) (taskAt (stateOf [] [] counts held) k) ≡ true

@@ -13,7 +13,7 @@ use Rattle.plan.specs.Limits.{noRow}
 use Rattle.plan.specs.Plan.{isGlobal}
 use Rattle.state.specs.declared.BudgetLeft.{BudgetLeft}
 use Rattle.state.specs.declared.State.{State}
-use Rattle.state.specs.State.{taskAt, isReady, isWaiting, isActive, heldAt, lastHeld, inSection}
+use Rattle.state.specs.State.{taskAt, hasBudget, isReady, isWaiting, isActive, heldAt, lastHeld, inSection}
 
 -- a plan of which only these are read
 abbrev pub planOf : ℕ → List ℕ → List ℕ → Plan
@@ -54,6 +54,17 @@ pub record Found (subsystems k : ℕ) (ceilings : ℕ → ℕ) (ceiling holder :
   pub smallest : ceiling ≡ least subsystems k ceilings
   pub of-holder : ceiling < subsystems → holder ≡ first k (λ j. eqb (ceilings j) ceiling)
   pub of-none : ceiling ≡ subsystems → holder ≡ noRow
+
+-- the subsystem of task h; no row if h is none
+unfoldable pub ownerOf : List ℕ → ℕ → ℕ
+ownerOf owners h = cond (eqb h noRow) noRow (getD owners h 0)
+
+-- the first subsystem below ceiling m with budget left, else that of the holder h
+unfoldable pub chosenBy : List ℕ → List BudgetLeft → ℕ → ℕ → ℕ
+chosenBy owners left m h =
+    cond (ltb (first m (hasBudget (stateOf left [] [] []))) m)
+    (first m (hasBudget (stateOf left [] [] [])))
+    (ownerOf owners h)
 
 -- the ceiling of the i-th resource that task k holds if that is local; no row otherwise
 unfoldable pub localAt : List ℕ → List ℕ → List ℕ → ℕ → ℕ → ℕ

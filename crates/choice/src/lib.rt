@@ -14,7 +14,7 @@ ghost use Rattle.state.specs.declared.State.{State};
 ghost use Rattle.state.specs.State.{taskAt, hasBudget, heldAt, lastHeld, inSection};
 ghost use Rattle.choice.specs.Choice.{orNoRow, chosen, chosenTask, runs};
 ghost use Rattle.choice.specs.Lent.{Lent};
-ghost use Rattle.choice.specs.Columns.{planOf, stateOf, sectionCeiling, Found, localAt, belowHeld, belowHeldIn, keeps, keepsIn, takenBelow};
+ghost use Rattle.choice.specs.Columns.{planOf, stateOf, sectionCeiling, Found, chosenBy, localAt, belowHeld, belowHeldIn, keeps, keepsIn, takenBelow};
 use state::BudgetLeft;
 
 // The subsystem chosen and the task taken in it, waiting or not; 255 for none.
@@ -144,14 +144,16 @@ fn first_with_budget(left: [BudgetLeft; 8], n: u8) -> u8
 // "Subsystem": the smallest row with budget left below the system ceiling, else the holder, even with no budget left.
 fn subsystem_of(owners: &[u8; 32], left: [BudgetLeft; 8], x: Section) -> u8
     requires { ⌜ x .ceiling ≤ 8 ⌝ }
-    ensures { λ r. ⌜ (first (x .ceiling) (hasBudget (stateOf left [] [] [])) < x .ceiling → r ≡ first (x .ceiling) (hasBudget (stateOf left [] [] []))) ⌝ }
-    ensures { λ r. ⌜ (x .ceiling ≤ first (x .ceiling) (hasBudget (stateOf left [] [] [])) → r ≡ getD (now (owners .entry)) (x .holder) noRow) ⌝ }
+    ensures { λ r. ⌜ r ≡ chosenBy (now (owners .entry)) left (x .ceiling) (x .holder) ⌝ }
 {
     let c = first_with_budget(left, x.ceiling);
     if c < x.ceiling {
         return c;
     }
-    at(owners, x.holder as usize, 255)
+    if x.holder == 255 {
+        return 255;
+    }
+    at(owners, x.holder as usize, 0)
 }
 
 // The ceiling of the i-th resource that a task holds if that is local; 255 otherwise.
