@@ -1,12 +1,12 @@
 -- Laws of least: how a loop that keeps the smallest value so far, and the first number with it, starts and goes on. Laws of a search below a bound.
-use mathlib.Core.Path.{_≡_, refl, sym, ap, _∙_}
+use mathlib.Core.Path.{_≡_, refl, sym, _∙_}
 use mathlib.Core.Logic.{⊎-elim}
-use mathlib.Core.Bool.{Bool, true, false, _&&_, _||_, and-false, and-assoc}
+use mathlib.Core.Bool.{Bool, true, false, _&&_, and-false, and-assoc}
 use Prim.Native.Nat.{ℕ, _+_, _≤_, _<_}
 use native.Mathlib.Nat.{eq-or-lt-of-le, lt-of-lt-of-le}
 use native.Mathlib.Omega.{arith}
 use lib.Dec.{ltb, eqb}
-use borrow.Author.Tests.{lt-ltb, ltb-true, ltb-false, eq-eqb, ne-eqb}
+use borrow.Author.Tests.{lt-ltb, ltb-true, eq-eqb, ne-eqb}
 use Rattle.below.specs.Below.{all, any, first}
 use Rattle.below.specs.Least.{least}
 use Rattle.below.proofs.Search.{all-next, any-none, any-next, any-true, any-of, any-false, first-le, first-passes, first-before, first-most, first-absent, first-is, first-kept}

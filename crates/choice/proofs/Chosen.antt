@@ -2,7 +2,7 @@
 use mathlib.Core.Path.{_≡_, refl, sym, ap, _∙_}
 use mathlib.Core.Logic.{⊎-elim}
 use mathlib.Core.Bool.{Bool, true, false, _&&_}
-use mathlib.Core.List.{List, []}
+use mathlib.Core.List.{List}
 use Prim.Native.Nat.{ℕ, _≤_, _<_}
 use native.Mathlib.Nat.{eq-or-lt-of-le}
 use native.Mathlib.Omega.{arith}
@@ -21,7 +21,7 @@ use Rattle.state.specs.declared.State.{State}
 use Rattle.state.specs.State.{taskAt, leftOf, hasBudget, lastHeld, inSection}
 use Rattle.state.specs.Facts.{Legal}
 use Rattle.choice.specs.Choice.{holdsAtCeiling, systemCeiling, ceilingHolder, chosen}
-use Rattle.choice.specs.Columns.{stateOf, Found, ownerOf, chosenBy}
+use Rattle.choice.specs.Columns.{Found, ownerOf, chosenBy}
 use Rattle.choice.proofs.Columns.{owner-none, owner-there, chosen-budget, chosen-holder}
 use Rattle.choice.proofs.Sections.{lentCeiling, ceiling-row, holds-at, system-is}
 

@@ -1,6 +1,6 @@
 -- The definitions over lent columns, by the tests that the code makes.
-use mathlib.Core.Path.{_≡_, refl, ap, sym, _∙_}
-use mathlib.Core.Bool.{Bool, true, false, _&&_, _||_, cond, and-false}
+use mathlib.Core.Path.{_≡_}
+use mathlib.Core.Bool.{true, false, and-false}
 use mathlib.Core.List.{List, []}
 use Prim.Native.Nat.{ℕ, _≤_, _<_}
 use lib.Dec.{ltb, eqb}
@@ -106,6 +106,10 @@ module _ (owners conditions : List ℕ) (c low k : ℕ) where
       rw (takenBelow, ne-eqb (getD conditions k 0) 2 s, ne-eqb (getD conditions k 0) 3 w, ne-eqb (getD conditions k 0) 1 r)
       (and-false (eqb (getD owners k 0) c))
 
-  pub taken-ready : getD owners k 0 ≡ c → getD conditions k 0 ≡ 1 → takenBelow owners conditions c low k ≡ ltb k low
+  pub taken-ready : getD owners k 0 ≡ c → getD conditions k 0 ≡ 1 → k < low → takenBelow owners conditions c low k ≡ true
   unfolding takenBelow isActive isStarted isWaiting isReady taskAt
-  taken-ready e f = rw (takenBelow, eq-eqb (getD owners k 0) c e, f)
+  taken-ready e f h = rw (takenBelow, eq-eqb (getD owners k 0) c e, f, lt-ltb k low h)
+
+  pub taken-barred : getD owners k 0 ≡ c → getD conditions k 0 ≡ 1 → low ≤ k → takenBelow owners conditions c low k ≡ false
+  unfolding takenBelow isActive isStarted isWaiting isReady taskAt
+  taken-barred e f h = rw (takenBelow, eq-eqb (getD owners k 0) c e, f, le-ltb k low h)

@@ -1,11 +1,7 @@
 -- How the loop that looks for the system ceiling starts and goes on.
-use mathlib.Core.Path.{_≡_, refl, sym, _∙_}
-use mathlib.Core.Bool.{Bool}
+use mathlib.Core.Path.{refl, sym, _∙_}
 use Prim.Native.Nat.{ℕ, _+_, _≤_, _<_}
 use native.Mathlib.Omega.{arith}
-use lib.Dec.{eqb}
-use Rattle.below.specs.Below.{first}
-use Rattle.below.specs.Least.{least}
 use Rattle.below.proofs.Least.{least-none, least-le, least-taken, least-taken-at, least-kept, least-kept-at}
 use Rattle.plan.specs.Limits.{noRow}
 use Rattle.choice.specs.Columns.{Found}

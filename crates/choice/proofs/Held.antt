@@ -1,10 +1,11 @@
--- What a state says of one task, by the tests that the code makes: where its held resources stand, whether it is in a section, whether it runs.
+-- What a state says of one row, by the tests that the code makes: where a task's held resources stand, whether it is in a section, whether it runs, and
+-- whether a subsystem has budget left.
 use mathlib.Core.Path.{_≡_}
-use mathlib.Core.Bool.{false}
+use mathlib.Core.Bool.{true, false}
 use Prim.Native.Nat.{ℕ, _+_, _*_, _≤_, _<_}
 use native.Mathlib.Omega.{arith}
 use lib.ListN.{getD, List·getD-eq-default}
-use borrow.Author.Tests.{le-leb, lt-leb, eq-eqb, ne-eqb}
+use borrow.Author.Tests.{lt-ltb, le-ltb, le-leb, lt-leb, eq-eqb, ne-eqb}
 use Rattle.below.specs.Listed.{listed}
 use Rattle.below.proofs.Listed.{length-listed, getD-listed}
 use Rattle.plan.specs.declared.Plan.{Plan}
@@ -12,7 +13,7 @@ use Rattle.plan.specs.Limits.{noRow}
 use Rattle.plan.specs.Plan.{isGlobal}
 use Rattle.state.specs.declared.Task.{Task}
 use Rattle.state.specs.declared.State.{State}
-use Rattle.state.specs.State.{mostHeld, taskAt, heldAt, heldPlace, lastHeld, inSection, isWaiting}
+use Rattle.state.specs.State.{mostHeld, taskAt, leftOf, hasBudget, heldAt, heldPlace, lastHeld, inSection, isWaiting}
 use Rattle.choice.specs.Choice.{runs}
 
 module _ (s : State) (k i : ℕ) where
@@ -23,6 +24,15 @@ module _ (s : State) (k i : ℕ) where
   pub held-past : mostHeld ≤ i → heldAt (taskAt s k) i ≡ noRow
   unfolding heldAt taskAt heldPlace
   held-past h = List·getD-eq-default (listed mostHeld (λ j. getD (s .held) (heldPlace k j) noRow)) noRow (rw length-listed h)
+
+module _ (s : State) (c : ℕ) where
+  pub budget-left : 0 < leftOf s c .0 → hasBudget s c ≡ true
+  unfolding hasBudget
+  budget-left h = rw (hasBudget, lt-ltb 0 (leftOf s c .0) h)
+
+  pub budget-gone : leftOf s c .0 ≤ 0 → hasBudget s c ≡ false
+  unfolding hasBudget
+  budget-gone h = rw (hasBudget, le-ltb 0 (leftOf s c .0) h)
 
 module _ (p : Plan) (t : Task) where
   pub section-none : t .count ≡ 0 → inSection p t ≡ false

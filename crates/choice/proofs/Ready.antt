@@ -15,8 +15,8 @@ use Rattle.choice.proofs.Columns.{below-other, below-own}
 
 module _ (n k : ℕ) (kept : ℕ → Bool) (clear : ℕ → ℕ → Bool) where
   -- a task keeps every ready one from being taken
-  pub ready-none : k < n → kept k ≡ true → (t : ℕ) → t < noRow → ltb t 0 ≡ (not (any n kept) && all n (clear t))
-  ready-none h e t u = rw (any-of n kept k h e) (le-ltb t 0 (omega arith))
+  pub ready-none : (low : ℕ) → low ≡ 0 → k < n → kept k ≡ true → (t : ℕ) → t < noRow → ltb t low ≡ (not (any n kept) && all n (clear t))
+  ready-none low z h e t u = rw (any-of n kept k h e) (le-ltb t low (omega arith))
 
   -- no task does, and low is the lowest ceiling
   pub ready-ended : (low : ℕ) → k ≤ n → n ≤ k → ((j : ℕ) → j < k → kept j ≡ false) → ((t : ℕ) → ltb t low ≡ (ltb t noRow && all k (clear t)))

@@ -1,15 +1,15 @@
 -- Of a legal state, what the loop over the sections finds is the system ceiling and its holder.
-use mathlib.Core.Path.{_≡_, refl, sym, ap, _∙_}
+use mathlib.Core.Path.{_≡_, refl, ap, _∙_}
 use mathlib.Core.Bool.{Bool, true, false, _&&_, and-eq-true-iff}
-use mathlib.Core.List.{List, []}
+use mathlib.Core.List.{List}
 use Prim.Native.Nat.{ℕ, _-_, _≤_, _<_}
 use native.Mathlib.Omega.{arith}
-use lib.Dec.{ltb, leb, eqb}
+use lib.Dec.{leb, eqb}
 use lib.ListN.{getD}
-use borrow.Author.Tests.{lt-ltb, le-ltb, leb-true, eq-eqb, ne-eqb}
-use Rattle.below.specs.Below.{any, first}
+use borrow.Author.Tests.{leb-true, eq-eqb, ne-eqb}
+use Rattle.below.specs.Below.{any}
 use Rattle.below.specs.Least.{least}
-use Rattle.below.proofs.Search.{any-of, any-agree, first-agree, first-most, first-absent}
+use Rattle.below.proofs.Search.{any-of, any-agree, first-agree, first-most}
 use Rattle.plan.specs.declared.Plan.{Plan}
 use Rattle.plan.specs.Limits.{noRow}
 use Rattle.plan.specs.Plan.{owner, isGlobal, declares, level}
@@ -20,7 +20,7 @@ use Rattle.state.specs.declared.State.{State}
 use Rattle.state.specs.State.{taskAt, heldAt, lastHeld, inSection}
 use Rattle.state.specs.Facts.{Legal, HeldLegal}
 use Rattle.choice.specs.Choice.{holdsAtCeiling, systemCeiling}
-use Rattle.choice.specs.Columns.{planOf, stateOf, sectionCeiling}
+use Rattle.choice.specs.Columns.{sectionCeiling}
 use Rattle.choice.proofs.Columns.{ceiling-in, ceiling-out}
 
 -- a task in a section holds a resource, and the last one is global

@@ -257,7 +257,10 @@ fn may_be_taken<'a>(owners: &'a [u8; 32], conditions: &'a [u8; 32], c: u8, low: 
     if condition != 1 {
         return false;
     }
-    k < low
+    if low <= k {
+        return false;
+    }
+    true
 }
 
 // "Task": the smallest such row; 255 if there is none.

@@ -1,21 +1,17 @@
+-- `choice::at` meets its contract: what is read past the end does not matter inside.
 use mathlib.Core.Path.{sym}
 use lib.ListN.{List·getD-eq-default}
-use Rattle.below.proofs.Entries.{getD-within}
 use borrow.Author.Needs.{needs}
+use Rattle.below.proofs.Entries.{getD-within}
 use Rattle.choice.proofs.at.Statement.{statement}
 use Rattle.choice.proofs.at.Tie as tie
-use Rattle.choice.proofs.at.Reads as reads
-use Rattle.choice.proofs.at.Lts as lts
 
--- src/rt:36:27
 shared-slice-read-result : tie.Need-shared-slice-read-result
 shared-slice-read-result c = search needs
 
--- src/rt:33:1
 returns : tie.Need-returns
 returns c = getD-within (c .before .before .args .column .now) _ _ _ (c .before .if1 .taken)
 
--- src/rt:33:1
 returns-2 : tie.Need-returns-2
 returns-2 c = sym (List·getD-eq-default (c .before .args .column .now) _ (c .if1 .left))
 

@@ -1,46 +1,36 @@
-use mathlib.Core.Path.{_≡_}
+-- `choice::choose` meets its contract: what its parts found is, of a legal state that is lent, the choice. No accepted plan has more rows than the first tests let pass.
 use native.Mathlib.Omega.{arith}
+use borrow.Author.Needs.{needs}
 use Rattle.below.proofs.Least.{least-le}
 use Rattle.choice.specs.Columns.{sectionCeiling}
 use Rattle.choice.proofs.Computed.{computed-is}
-use borrow.Author.Needs.{needs}
 use Rattle.choice.proofs.choose.Statement.{statement}
 use Rattle.choice.proofs.choose.Tie as tie
-use Rattle.choice.proofs.choose.Reads as reads
-use Rattle.choice.proofs.choose.Lts as lts
-use Rattle.choice.proofs.ready_below.Reads as ready-below-reads
-use Rattle.choice.proofs.subsystem_of.Reads as subsystem-of-reads
-use Rattle.choice.proofs.system_section.Reads as system-section-reads
-use Rattle.choice.proofs.task_of.Reads as task-of-reads
 
--- src/rt:290:9
 returns : tie.Need-returns
 returns c = search needs
 
--- src/rt:296:9
 returns-2 : tie.Need-returns-2
 returns-2 c = search needs
 
--- src/rt:301:9
 system-section-requires : tie.Need-system-section-requires
 system-section-requires c κs = search needs
 
--- src/rt:302:9
 subsystem-of-requires : tie.Need-subsystem-of-requires
 subsystem-of-requires c κs =
     let a = c .before .before .before .args in
-    omega (arith, c .system-section .ensures .smallest,
-    least-le (a .subsystems) (a .tasks) (sectionCeiling (a .kinds .now) (a .ceilings .now) (a .counts .now) (a .held .now)))
+    omega (
+      arith,
+      c .system-section .ensures .smallest,
+      least-le (a .subsystems) (a .tasks) (sectionCeiling (a .kinds .now) (a .ceilings .now) (a .counts .now) (a .held .now)),
+    )
 
--- src/rt:303:9
 ready-below-requires : tie.Need-ready-below-requires
 ready-below-requires c κs = search needs
 
--- src/rt:304:9
 task-of-requires : tie.Need-task-of-requires
 task-of-requires c κs = search needs
 
--- src/rt:276:1
 returns-3 : tie.Need-returns-3
 returns-3 c = λ p s lent.
     computed-is p s _ _ _ _ _ _ _ _ _ _ _ _ _ _ lent

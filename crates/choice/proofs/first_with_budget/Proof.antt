@@ -1,18 +1,17 @@
-use mathlib.Core.Path.{_≡_, sym, ap, _∙_}
+-- `choice::first_with_budget` meets its contract. The loop's invariant: no subsystem passed has budget left.
+use mathlib.Core.Path.{_≡_}
 use mathlib.Core.Bool.{false}
 use mathlib.Core.List.{[]}
 use Prim.Native.Nat.{ℕ, _≤_, _<_, _-_}
 use native.Mathlib.Omega.{arith}
 use borrow.Author.Count.{below-none, below-more}
 use borrow.Author.Needs.{needs}
-use borrow.Author.Tests.{lt-ltb, le-ltb}
 use Rattle.below.proofs.Loops.{first-left, first-ended}
 use Rattle.state.specs.State.{hasBudget, leftOf}
 use Rattle.choice.specs.Columns.{stateOf}
+use Rattle.choice.proofs.Held.{budget-left, budget-gone}
 use Rattle.choice.proofs.first_with_budget.Statement.{statement}
 use Rattle.choice.proofs.first_with_budget.Tie as tie
-use Rattle.choice.proofs.first_with_budget.Reads as reads
-use Rattle.choice.proofs.first_with_budget.Lts as lts
 
 abbrev Inv-loop : tie.InvT-loop
 Inv-loop n left c₀ c = (c ≤ n) × ((j : ℕ) → j < c → hasBudget (stateOf left [] [] []) j ≡ false)
@@ -20,43 +19,34 @@ Inv-loop n left c₀ c = (c ≤ n) × ((j : ℕ) → j < c → hasBudget (stateO
 abbrev μ-loop : tie.MeasureT-loop
 μ-loop n left c₀ c = n - c
 
--- src/rt:133:5
 loop-holds : tie.Need-loop-holds Inv-loop μ-loop
 loop-holds c = (omega arith, below-none _)
 
--- src/rt:134:18
 cast-at : tie.Need-cast-at Inv-loop μ-loop
 cast-at c = search needs
 
--- src/rt:135:17
 mul-q : tie.Need-mul-q Inv-loop μ-loop
 mul-q c = search needs
 
--- src/rt:135:17
 array-copy-out-q : tie.Need-array-copy-out-q Inv-loop μ-loop
 array-copy-out-q c = search needs
 
--- src/rt:137:13
 returns : tie.Need-returns Inv-loop μ-loop
-unfolding hasBudget leftOf
+unfolding leftOf
 returns c =
-    first-left _ _ _ (c .before .before .before .loop-test .taken) (lt-ltb _ _ (c .if1 .taken)) (c .before .before .before .before .loop .inv .1)
+    first-left _ _ _ (c .before .before .before .loop-test .taken) (budget-left _ _ (omega arith)) (c .before .before .before .before .loop .inv .1)
 
--- src/rt:139:9
 add-c : tie.Need-add-c Inv-loop μ-loop
 add-c c = omega arith
 
--- src/rt:133:5
 loop-less : tie.Need-loop-less Inv-loop μ-loop
 loop-less c = omega arith
 
--- src/rt:133:5
 loop-again : tie.Need-loop-again Inv-loop μ-loop
-unfolding hasBudget leftOf
+unfolding leftOf
 loop-again c =
-    (omega arith, below-more _ _ (c .before .before .before .before .loop .inv .1) (le-ltb _ _ (c .if1 .left)))
+    (omega arith, below-more _ _ (c .before .before .before .before .loop .inv .1) (budget-gone _ _ (omega arith)))
 
--- src/rt:128:1
 returns-2 : tie.Need-returns-2 Inv-loop μ-loop
 returns-2 c =
     let l = c .before .loop in

@@ -1,30 +1,23 @@
+-- `choice::held_at` meets its contract: the first four places of a task are its own.
 use mathlib.Core.Path.{sym, _∙_}
 use native.Mathlib.Omega.{arith}
-use Rattle.choice.proofs.Held.{held-there, held-past}
 use borrow.Author.Needs.{needs}
+use Rattle.choice.proofs.Held.{held-there, held-past}
 use Rattle.choice.proofs.held_at.Statement.{statement}
 use Rattle.choice.proofs.held_at.Tie as tie
-use Rattle.choice.proofs.held_at.Reads as reads
-use Rattle.choice.proofs.held_at.Lts as lts
-use Rattle.choice.proofs.at.Reads as at-reads
 
--- src/rt:50:9
 returns : tie.Need-returns
-returns c = sym (held-past _ _ _ (c .if1 .taken))
+returns c = sym (held-past _ _ _ (omega arith))
 
--- src/rt:52:14
 mul-at : tie.Need-mul-at
 mul-at c = search needs
 
--- src/rt:52:14
 add-at : tie.Need-add-at
 add-at c = search needs
 
--- src/rt:52:5
 at-requires : tie.Need-at-requires
 at-requires c κs = search needs
 
--- src/rt:46:1
 returns-2 : tie.Need-returns-2
 returns-2 c = c .at .ensures ∙ sym (held-there _ _ _ (omega arith))
 

@@ -1,37 +1,25 @@
-use mathlib.Core.Path.{sym, ap, _∙_}
-use Prim.Native.Nat.{ℕ}
-use lib.ListN.{getD}
-use Rattle.choice.proofs.Columns.{local-global, local-local}
+-- `choice::local_at` meets its contract, by whether the resource is global.
+use mathlib.Core.Path.{sym, _∙_}
 use borrow.Author.Needs.{needs}
+use Rattle.choice.proofs.Columns.{local-global, local-local}
 use Rattle.choice.proofs.local_at.Statement.{statement}
 use Rattle.choice.proofs.local_at.Tie as tie
-use Rattle.choice.proofs.local_at.Reads as reads
-use Rattle.choice.proofs.local_at.Lts as lts
-use Rattle.choice.proofs.at.Reads as at-reads
-use Rattle.choice.proofs.held_at.Reads as held-at-reads
-use Rattle.choice.proofs.is_global.Reads as is-global-reads
 
--- src/rt:167:9
 held-at-requires : tie.Need-held-at-requires
 held-at-requires c κs = search needs
 
--- src/rt:168:8
 is-global-requires : tie.Need-is-global-requires
 is-global-requires c κs = search needs
 
--- src/rt:169:9
 returns : tie.Need-returns
 returns c = sym (local-global _ _ _ _ _ (rw (c .before .before .held-at .ensures) at (sym (c .before .is-global .ensures) ∙ c .if1 .taken)))
 
--- src/rt:171:18
 cast-at : tie.Need-cast-at
 cast-at c = search needs
 
--- src/rt:171:5
 at-requires : tie.Need-at-requires
 at-requires c κs = search needs
 
--- src/rt:158:1
 returns-2 : tie.Need-returns-2
 returns-2 c =
     let h = c .before .before .before .before .held-at .ensures in

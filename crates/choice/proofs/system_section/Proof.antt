@@ -1,15 +1,13 @@
-use borrow.Author.Needs.{needs}
-use mathlib.Core.Path.{_≡_, sym, _∙_}
+-- `choice::system_section` meets its contract. The loop's invariant: what was found is the smallest ceiling of the tasks passed, and the first of them with it.
+use mathlib.Core.Path.{_≡_, _∙_}
 use mathlib.Core.Logic.{⊎-elim}
 use Prim.Native.Nat.{_≤_, _-_}
 use native.Mathlib.Omega.{arith}
+use borrow.Author.Needs.{needs}
 use Rattle.choice.specs.Columns.{sectionCeiling, Found}
 use Rattle.choice.proofs.Found.{found-none, found-taken, found-kept}
 use Rattle.choice.proofs.system_section.Statement.{statement}
 use Rattle.choice.proofs.system_section.Tie as tie
-use Rattle.choice.proofs.system_section.Reads as reads
-use Rattle.choice.proofs.system_section.Lts as lts
-use Rattle.choice.proofs.section_ceiling.Reads as section-ceiling-reads
 
 abbrev Inv-loop : tie.InvT-loop
 Inv-loop subsystems tasks kinds ceilings counts held ceiling₀ holder₀ k₀ ceiling holder k = (k ≤ tasks) × Found subsystems k (sectionCeiling kinds ceilings counts held) ceiling holder
@@ -17,23 +15,18 @@ Inv-loop subsystems tasks kinds ceilings counts held ceiling₀ holder₀ k₀ c
 abbrev μ-loop : tie.MeasureT-loop
 μ-loop subsystems tasks kinds ceilings counts held ceiling₀ holder₀ k₀ ceiling holder k = tasks - k
 
--- src/rt:116:5
 loop-holds : tie.Need-loop-holds Inv-loop μ-loop
 loop-holds c = (omega arith, found-none _ _)
 
--- src/rt:117:13
 section-ceiling-requires : tie.Need-section-ceiling-requires Inv-loop μ-loop
 section-ceiling-requires c κs = search needs
 
--- src/rt:122:9
 add-k : tie.Need-add-k Inv-loop μ-loop
 add-k c = omega arith
 
--- src/rt:116:5
 loop-less : tie.Need-loop-less Inv-loop μ-loop
 loop-less c = omega arith
 
--- src/rt:116:5
 loop-again : tie.Need-loop-again Inv-loop μ-loop
 loop-again c =
     let i = c .before .before .before .loop .inv .1 in
@@ -45,7 +38,6 @@ loop-again c =
           (c .if1 .came),
     )
 
--- src/rt:103:1
 returns : tie.Need-returns Inv-loop μ-loop
 returns c =
     let e : c .before .loop .k ≡ c .before .before .args .tasks = omega arith in

@@ -1,3 +1,4 @@
+-- `choice::task_of` meets its contract. The loop's invariant: no task passed may be taken.
 use mathlib.Core.Path.{_≡_, sym, ap, _∙_}
 use mathlib.Core.Bool.{false}
 use Prim.Native.Nat.{ℕ, _≤_, _<_, _-_}
@@ -10,9 +11,6 @@ use Rattle.choice.specs.Columns.{takenBelow}
 use Rattle.choice.proofs.Columns.{row-there, row-past}
 use Rattle.choice.proofs.task_of.Statement.{statement}
 use Rattle.choice.proofs.task_of.Tie as tie
-use Rattle.choice.proofs.task_of.Reads as reads
-use Rattle.choice.proofs.task_of.Lts as lts
-use Rattle.choice.proofs.may_be_taken.Reads as may-be-taken-reads
 
 abbrev Inv-loop : tie.InvT-loop
 Inv-loop tasks owners conditions c low k₀ k = (k ≤ tasks) × ((j : ℕ) → j < k → takenBelow owners conditions c low j ≡ false)
@@ -20,33 +18,26 @@ Inv-loop tasks owners conditions c low k₀ k = (k ≤ tasks) × ((j : ℕ) → 
 abbrev μ-loop : tie.MeasureT-loop
 μ-loop tasks owners conditions c low k₀ k = tasks - k
 
--- src/rt:266:5
 loop-holds : tie.Need-loop-holds Inv-loop μ-loop
 loop-holds c = (omega arith, below-none _)
 
--- src/rt:267:12
 may-be-taken-requires : tie.Need-may-be-taken-requires Inv-loop μ-loop
 may-be-taken-requires c κs = search needs
 
--- src/rt:268:13
 returns : tie.Need-returns Inv-loop μ-loop
 returns c =
     let l = c .before .before .loop-test .taken in
     sym (row-there _ _ l) ∙ ap (orNoRow _) (first-left _ _ _ l (sym (c .before .may-be-taken .ensures) ∙ c .if1 .taken) (c .before .before .before .loop .inv .1))
 
--- src/rt:270:9
 add-k : tie.Need-add-k Inv-loop μ-loop
 add-k c = omega arith
 
--- src/rt:266:5
 loop-less : tie.Need-loop-less Inv-loop μ-loop
 loop-less c = omega arith
 
--- src/rt:266:5
 loop-again : tie.Need-loop-again Inv-loop μ-loop
 loop-again c = (omega arith, below-more _ _ (c .before .before .before .loop .inv .1) (sym (c .before .may-be-taken .ensures) ∙ c .if1 .left))
 
--- src/rt:262:1
 returns-2 : tie.Need-returns-2 Inv-loop μ-loop
 returns-2 c =
     let l = c .before .loop in
