@@ -3,7 +3,7 @@ use mathlib.Core.Path.{_≡_}
 use mathlib.Core.Bool.{true, false, and-false}
 use mathlib.Core.List.{List, []}
 use Prim.Native.Nat.{ℕ, _≤_, _<_}
-use lib.Dec.{ltb, eqb}
+use lib.Dec.{eqb}
 use lib.ListN.{getD}
 use borrow.Author.Tests.{lt-ltb, le-ltb, eq-eqb, ne-eqb}
 use Rattle.below.specs.Below.{first}
@@ -40,21 +40,21 @@ module _ (owners : List ℕ) (left : List BudgetLeft) (m h : ℕ) where
   chosen-holder l = rw (chosenBy, le-ltb (first m (hasBudget (stateOf left [] [] []))) m l)
 
 module _ (kinds ceilings counts held : List ℕ) (k : ℕ) where
-  pub ceiling-in : inSection (planOf 0 [] kinds) (taskAt (stateOf [] [] counts held) k) ≡ true
+  pub ceiling-in : inSection (planOf kinds) (taskAt (stateOf [] [] counts held) k) ≡ true
       → sectionCeiling kinds ceilings counts held k ≡ getD ceilings (lastHeld (taskAt (stateOf [] [] counts held) k)) 0
   unfolding sectionCeiling
   ceiling-in e = rw (sectionCeiling, e)
 
-  pub ceiling-out : inSection (planOf 0 [] kinds) (taskAt (stateOf [] [] counts held) k) ≡ false → sectionCeiling kinds ceilings counts held k ≡ noRow
+  pub ceiling-out : inSection (planOf kinds) (taskAt (stateOf [] [] counts held) k) ≡ false → sectionCeiling kinds ceilings counts held k ≡ noRow
   unfolding sectionCeiling
   ceiling-out e = rw (sectionCeiling, e)
 
 module _ (kinds ceilings held : List ℕ) (k i : ℕ) where
-  pub local-global : isGlobal (planOf 0 [] kinds) (heldAt (taskAt (stateOf [] [] [] held) k) i) ≡ true → localAt kinds ceilings held k i ≡ noRow
+  pub local-global : isGlobal (planOf kinds) (heldAt (taskAt (stateOf [] [] [] held) k) i) ≡ true → localAt kinds ceilings held k i ≡ noRow
   unfolding localAt
   local-global e = rw (localAt, e)
 
-  pub local-local : isGlobal (planOf 0 [] kinds) (heldAt (taskAt (stateOf [] [] [] held) k) i) ≡ false
+  pub local-local : isGlobal (planOf kinds) (heldAt (taskAt (stateOf [] [] [] held) k) i) ≡ false
       → localAt kinds ceilings held k i ≡ getD ceilings (heldAt (taskAt (stateOf [] [] [] held) k) i) 0
   unfolding localAt
   local-local e = rw (localAt, e)
@@ -74,7 +74,7 @@ module _ (kinds conditions counts held : List ℕ) (k : ℕ) where
   keeps-waiting e = rw (keeps, e)
 
   pub keeps-section : (getD conditions k 0 ≡ 3 → ⊥)
-      → keeps kinds conditions counts held k ≡ inSection (planOf 0 [] kinds) (taskAt (stateOf [] [] counts held) k)
+      → keeps kinds conditions counts held k ≡ inSection (planOf kinds) (taskAt (stateOf [] [] counts held) k)
   unfolding keeps isWaiting taskAt
   keeps-section h = rw (keeps, ne-eqb (getD conditions k 0) 3 h)
 

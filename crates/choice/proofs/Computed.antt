@@ -1,25 +1,23 @@
 -- What the parts of a choice found, of lent columns: together they are the choice.
 use mathlib.Core.Path.{_≡_, ap, _∙_}
-use mathlib.Core.Bool.{not, _&&_}
 use mathlib.Core.List.{List}
 use Prim.Native.Nat.{ℕ, _<_}
 use lib.Dec.{ltb}
-use Rattle.below.specs.Below.{all, any, first}
+use Rattle.below.specs.Below.{first}
 use Rattle.plan.specs.declared.Plan.{Plan}
 use Rattle.plan.specs.Limits.{noRow}
 use Rattle.state.specs.declared.BudgetLeft.{BudgetLeft}
 use Rattle.state.specs.declared.State.{State}
 use Rattle.choice.specs.Choice.{orNoRow, chosen, taken, chosenTask}
 use Rattle.choice.specs.Lent.{Lent}
-use Rattle.choice.specs.Columns.{sectionCeiling, Found, chosenBy, belowHeldIn, keepsIn, takenBelow}
+use Rattle.choice.specs.Columns.{sectionCeiling, Found, chosenBy, unbarred, takenBelow}
 use Rattle.choice.proofs.Chosen.{chosen-is}
 use Rattle.choice.proofs.Taken.{taken-is}
 
 pub record Computed (subsystems tasks : ℕ) (owners kinds ceilings : List ℕ) (left : List BudgetLeft) (conditions counts held : List ℕ) (m h c low k : ℕ) : Type 0 where
   pub found : Found subsystems tasks (sectionCeiling kinds ceilings counts held) m h
   pub subsystem : c ≡ chosenBy owners left m h
-  pub ready : (t : ℕ) → t < noRow
-      → ltb t low ≡ (not (any tasks (keepsIn owners kinds conditions counts held c)) && all tasks (belowHeldIn owners kinds ceilings counts held c t))
+  pub ready : (t : ℕ) → t < noRow → ltb t low ≡ unbarred tasks owners kinds ceilings conditions counts held c t
   pub task : k ≡ orNoRow tasks (first tasks (takenBelow owners conditions c low))
 
 module _ (p : Plan) (s : State) (subsystems tasks : ℕ) (owners kinds ceilings : List ℕ) (left : List BudgetLeft) (conditions counts held : List ℕ) (m h c low k : ℕ)

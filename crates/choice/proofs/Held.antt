@@ -1,7 +1,8 @@
 -- What a state says of one row, by the tests that the code makes: where a task's held resources stand, whether it is in a section, whether it runs, and
 -- whether a subsystem has budget left.
-use mathlib.Core.Path.{_≡_}
+use mathlib.Core.Path.{_≡_, refl}
 use mathlib.Core.Bool.{true, false}
+use mathlib.Core.List.{[]}
 use Prim.Native.Nat.{ℕ, _+_, _*_, _≤_, _<_}
 use native.Mathlib.Omega.{arith}
 use lib.ListN.{getD, List·getD-eq-default}
@@ -15,6 +16,7 @@ use Rattle.state.specs.declared.Task.{Task}
 use Rattle.state.specs.declared.State.{State}
 use Rattle.state.specs.State.{mostHeld, taskAt, leftOf, hasBudget, heldAt, heldPlace, lastHeld, inSection, isWaiting}
 use Rattle.choice.specs.Choice.{runs}
+use Rattle.choice.specs.Columns.{planOf, stateOf}
 
 module _ (s : State) (k i : ℕ) where
   pub held-there : i < mostHeld → heldAt (taskAt s k) i ≡ getD (s .held) (k * 4 + i) noRow
@@ -51,3 +53,17 @@ module _ (s : State) (k : ℕ) where
   pub runs-other : (taskAt s k .condition ≡ 3 → ⊥) → runs s k ≡ k
   unfolding runs isWaiting
   runs-other h = rw (runs, isWaiting, ne-eqb _ 3 h)
+
+-- what the functions over lent columns say, where the columns are a plan's and a state's
+module _ (p : Plan) (s : State) (k : ℕ) where
+  pub last-lent : lastHeld (taskAt (stateOf [] [] (s .counts) (s .held)) k) ≡ lastHeld (taskAt s k)
+  unfolding lastHeld heldAt taskAt
+  last-lent = refl
+
+  pub section-lent : inSection (planOf (p .kinds)) (taskAt (stateOf [] [] (s .counts) (s .held)) k) ≡ inSection p (taskAt s k)
+  unfolding inSection isGlobal lastHeld heldAt taskAt
+  section-lent = refl
+
+  pub runs-lent : runs (stateOf [] (s .conditions) [] []) k ≡ runs s k
+  unfolding runs isWaiting taskAt
+  runs-lent = refl

@@ -18,7 +18,7 @@ use Rattle.state.specs.declared.State.{State}
 use Rattle.state.specs.State.{taskAt, isReady, isWaiting, isStarted, isActive, heldAt, lastHeld, inSection}
 use Rattle.state.specs.Facts.{Legal}
 use Rattle.choice.specs.Choice.{orNoRow, belowLocals, keptFromReady, mayBeTaken, taken}
-use Rattle.choice.specs.Columns.{localAt, belowHeld, belowHeldIn, keeps, keepsIn, takenBelow}
+use Rattle.choice.specs.Columns.{localAt, belowHeld, belowHeldIn, keeps, keepsIn, unbarred, takenBelow}
 use Rattle.choice.proofs.Columns.{local-global, local-local}
 use Rattle.choice.proofs.Sections.{ceiling-local}
 
@@ -51,16 +51,14 @@ module _ (p : Plan) (s : State) (ceilings : List ℕ) (accepted : Accepted p) (l
   kept-is c = refl
 
   module _ (c low : ℕ)
-      (ready : (t : ℕ) → t < noRow
-      → ltb t low
-      ≡ (not (any (p .tasks) (keepsIn (p .owners) (p .kinds) (s .conditions) (s .counts) (s .held) c))
-      && all (p .tasks) (belowHeldIn (p .owners) (p .kinds) ceilings (s .counts) (s .held) c t))) where
+      (ready : (t : ℕ) → t < noRow → ltb t low ≡ unbarred (p .tasks) (p .owners) (p .kinds) ceilings (s .conditions) (s .counts) (s .held) c t) where
     may-is : (t : ℕ) → t < p .tasks → takenBelow (p .owners) (s .conditions) c low t ≡ mayBeTaken p s c t
     unfolding takenBelow mayBeTaken owner isActive isStarted isWaiting isReady taskAt
     may-is t h =
         let u : t < noRow = omega (arith, accepted .tasks-most) in
         ap (λ (b : Bool). eqb (owner p t) c && (isActive (taskAt s t) || b))
-        (ap (λ (b : Bool). isReady (taskAt s t) && b) (ready t u ∙ rw (kept-is c, below-is c t u)) ∙ sym (and-assoc (isReady (taskAt s t)) (not (keptFromReady p s c)) (belowLocals p s c t)))
+        (ap (λ (b : Bool). isReady (taskAt s t) && b) (ready t u ∙ rw (kept-is c, below-is c t u))
+        ∙ sym (and-assoc (isReady (taskAt s t)) (not (keptFromReady p s c)) (belowLocals p s c t)))
 
     pub taken-is : orNoRow (p .tasks) (first (p .tasks) (takenBelow (p .owners) (s .conditions) c low)) ≡ taken p s c
     unfolding taken foremost

@@ -6,7 +6,7 @@ use mathlib.Core.List.{List, []}
 use Prim.Native.Nat.{ℕ, _<_}
 use lib.Dec.{ltb, eqb}
 use lib.ListN.{getD}
-use Rattle.below.specs.Below.{all, first}
+use Rattle.below.specs.Below.{all, any, first}
 use Rattle.below.specs.Least.{least}
 use Rattle.plan.specs.declared.Plan.{Plan}
 use Rattle.plan.specs.Limits.{noRow}
@@ -15,16 +15,16 @@ use Rattle.state.specs.declared.BudgetLeft.{BudgetLeft}
 use Rattle.state.specs.declared.State.{State}
 use Rattle.state.specs.State.{taskAt, hasBudget, isReady, isWaiting, isActive, heldAt, lastHeld, inSection}
 
--- a plan of which only these are read
-abbrev pub planOf : ℕ → List ℕ → List ℕ → Plan
-planOf tasks owners kinds =
+-- a plan of which only the kinds are read
+abbrev pub planOf : List ℕ → Plan
+planOf kinds =
     record {
       subsystems = 0;
-      tasks = tasks;
+      tasks = 0;
       resources = 0;
       periods = [];
       budgets = [];
-      owners = owners;
+      owners = [];
       kinds = kinds;
       lengths = [];
     }
@@ -45,7 +45,7 @@ stateOf left conditions counts held =
 -- the ceiling of the global that task k holds; no row if it holds none
 unfoldable pub sectionCeiling : List ℕ → List ℕ → List ℕ → List ℕ → ℕ → ℕ
 sectionCeiling kinds ceilings counts held k =
-    cond (inSection (planOf 0 [] kinds) (taskAt (stateOf [] [] counts held) k))
+    cond (inSection (planOf kinds) (taskAt (stateOf [] [] counts held) k))
     (getD ceilings (lastHeld (taskAt (stateOf [] [] counts held) k)) 0)
     noRow
 
@@ -69,7 +69,7 @@ chosenBy owners left m h =
 -- the ceiling of the i-th resource that task k holds if that is local; no row otherwise
 unfoldable pub localAt : List ℕ → List ℕ → List ℕ → ℕ → ℕ → ℕ
 localAt kinds ceilings held k i =
-    cond (isGlobal (planOf 0 [] kinds) (heldAt (taskAt (stateOf [] [] [] held) k) i))
+    cond (isGlobal (planOf kinds) (heldAt (taskAt (stateOf [] [] [] held) k) i))
     noRow
     (getD ceilings (heldAt (taskAt (stateOf [] [] [] held) k) i) 0)
 
@@ -84,11 +84,16 @@ belowHeldIn owners kinds ceilings counts held c t k = not (eqb (getD owners k 0)
 -- task k waits or holds a global
 unfoldable pub keeps : List ℕ → List ℕ → List ℕ → List ℕ → ℕ → Bool
 keeps kinds conditions counts held k =
-    isWaiting (taskAt (stateOf [] conditions [] []) k) || inSection (planOf 0 [] kinds) (taskAt (stateOf [] [] counts held) k)
+    isWaiting (taskAt (stateOf [] conditions [] []) k) || inSection (planOf kinds) (taskAt (stateOf [] [] counts held) k)
 
 -- and is a task of subsystem c
 unfoldable pub keepsIn : List ℕ → List ℕ → List ℕ → List ℕ → List ℕ → ℕ → ℕ → Bool
 keepsIn owners kinds conditions counts held c k = eqb (getD owners k 0) c && keeps kinds conditions counts held k
+
+-- no task of subsystem c bars a ready one at row t
+abbrev pub unbarred : ℕ → List ℕ → List ℕ → List ℕ → List ℕ → List ℕ → List ℕ → ℕ → ℕ → Bool
+unbarred tasks owners kinds ceilings conditions counts held c t =
+    not (any tasks (keepsIn owners kinds conditions counts held c)) && all tasks (belowHeldIn owners kinds ceilings counts held c t)
 
 -- task k of subsystem c is started or waiting, or ready and below low
 unfoldable pub takenBelow : List ℕ → List ℕ → ℕ → ℕ → ℕ → Bool

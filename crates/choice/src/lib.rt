@@ -1,12 +1,12 @@
 // Who is chosen, over lent columns of a plan and a state. Every function takes any columns: a row or a resource that is not there reads as the
 // definitions read it.
 ghost use mathlib.Core.Path.{_≡_};
-ghost use mathlib.Core.Bool.{not, _&&_};
+ghost use mathlib.Core.Bool.{_&&_};
 ghost use mathlib.Core.List.{[]};
 ghost use Prim.Native.Nat.{ℕ, _<_, _≤_};
 ghost use lib.Dec.{ltb};
 ghost use lib.ListN.{getD};
-ghost use Rattle.below.specs.Below.{all, any, first};
+ghost use Rattle.below.specs.Below.{first};
 ghost use Rattle.plan.specs.declared.Plan.{Plan};
 ghost use Rattle.plan.specs.Limits.{noRow};
 ghost use Rattle.plan.specs.Plan.{isGlobal};
@@ -14,7 +14,7 @@ ghost use Rattle.state.specs.declared.State.{State};
 ghost use Rattle.state.specs.State.{taskAt, hasBudget, heldAt, lastHeld, inSection};
 ghost use Rattle.choice.specs.Choice.{orNoRow, chosen, chosenTask, runs};
 ghost use Rattle.choice.specs.Lent.{Lent};
-ghost use Rattle.choice.specs.Columns.{planOf, stateOf, sectionCeiling, Found, chosenBy, localAt, belowHeld, belowHeldIn, keeps, keepsIn, takenBelow};
+ghost use Rattle.choice.specs.Columns.{planOf, stateOf, sectionCeiling, Found, chosenBy, localAt, belowHeld, keeps, unbarred, takenBelow};
 use state::BudgetLeft;
 
 // The subsystem chosen and the task taken in it, waiting or not; 255 for none.
@@ -37,7 +37,7 @@ fn at(column: &[u8], i: usize, other: u8) -> u8
 }
 
 fn is_global(kinds: &[u8; 16], r: u8) -> bool
-    ensures { λ x. ⌜ x ≡ isGlobal (planOf 0 [] (now (kinds .entry))) r ⌝ }
+    ensures { λ x. ⌜ x ≡ isGlobal (planOf (now (kinds .entry))) r ⌝ }
 {
     at(kinds, r as usize, 0) == 1
 }
@@ -65,7 +65,7 @@ pub fn last_held<'a>(counts: &'a [u8; 32], held: &'a [u8; 128], k: u8) -> u8
 
 // A task that holds a global resource.
 pub fn in_section<'a>(kinds: &'a [u8; 16], counts: &'a [u8; 32], held: &'a [u8; 128], k: u8) -> bool
-    ensures { λ x. ⌜ x ≡ inSection (planOf 0 [] (now (kinds .entry))) (taskAt (stateOf [] [] (now (counts .entry)) (now (held .entry))) k) ⌝ }
+    ensures { λ x. ⌜ x ≡ inSection (planOf (now (kinds .entry))) (taskAt (stateOf [] [] (now (counts .entry)) (now (held .entry))) k) ⌝ }
 {
     if at(counts, k as usize, 0) == 0 {
         return false;
@@ -124,7 +124,7 @@ fn system_section<'a>(
     Section { ceiling, holder }
 }
 
-// The first of n subsystems with budget left; n if none has.
+// "Subsystem": the first of n rows with budget left; n if none has.
 fn first_with_budget(left: [BudgetLeft; 8], n: u8) -> u8
     requires { ⌜ n ≤ 8 ⌝ }
     ensures { λ r. ⌜ r ≡ first n (hasBudget (stateOf left [] [] [])) ⌝ }
@@ -224,7 +224,7 @@ fn ready_below<'a>(
     held: &'a [u8; 128],
     c: u8,
 ) -> u8
-    ensures { λ r. ⌜ ((t : ℕ) → t < noRow → ltb t r ≡ (not (any tasks (keepsIn (now (owners .entry)) (now (kinds .entry)) (now (conditions .entry)) (now (counts .entry)) (now (held .entry)) c)) && all tasks (belowHeldIn (now (owners .entry)) (now (kinds .entry)) (now (ceilings .entry)) (now (counts .entry)) (now (held .entry)) c t))) ⌝ }
+    ensures { λ r. ⌜ ((t : ℕ) → t < noRow → ltb t r ≡ unbarred tasks (now (owners .entry)) (now (kinds .entry)) (now (ceilings .entry)) (now (conditions .entry)) (now (counts .entry)) (now (held .entry)) c t) ⌝ }
 {
     let mut low: u8 = 255;
     let mut k: u8 = 0;
@@ -277,7 +277,7 @@ fn task_of<'a>(tasks: u8, owners: &'a [u8; 32], conditions: &'a [u8; 32], c: u8,
     255
 }
 
-// "Who is chosen": the subsystem and the task. A plan that was accepted has at most 8 subsystems and 32 tasks.
+// "Who is chosen": the subsystem and the task. Counts past the columns are those of no accepted plan: nothing is chosen.
 pub fn choose<'a>(
     subsystems: u8,
     tasks: u8,

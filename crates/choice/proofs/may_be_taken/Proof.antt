@@ -1,5 +1,5 @@
 -- `choice::may_be_taken` meets its contract: at each return the tests that led there say which law holds.
-use mathlib.Core.Path.{sym, _∙_}
+use mathlib.Core.Path.{sym}
 use native.Mathlib.Omega.{arith}
 use borrow.Author.Needs.{needs}
 use Rattle.choice.proofs.Columns.{taken-other, taken-started, taken-waiting, taken-idle, taken-ready, taken-barred}
@@ -25,8 +25,7 @@ returns-4 : tie.Need-returns-4
 returns-4 c = sym (taken-idle _ _ _ _ _ (omega arith) (omega arith) (omega arith))
 
 returns-5 : tie.Need-returns-5
-returns-5 c =
-    sym (taken-barred _ _ _ _ _ (omega arith) (omega arith) (omega arith))
+returns-5 c = sym (taken-barred _ _ _ _ _ (omega arith) (omega arith) (omega arith))
 
 returns-6 : tie.Need-returns-6
 returns-6 c = sym (taken-ready _ _ _ _ _ (omega arith) (omega arith) (omega arith))

@@ -57,8 +57,7 @@ loop-less c = omega arith
 loop-again : tie.Need-loop-again Inv-loop μ-loop
 loop-again c =
     let a = c .before .before .before .before .before .args in
-    let l = c .before .before .before .before .loop in
-    let e = c .before .at .ensures in (
+    let l = c .before .before .before .before .loop in (
       omega arith,
       below-more _ _ (l .inv .1)
           (⊎-elim
