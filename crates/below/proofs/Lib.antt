@@ -3,3 +3,5 @@ pub mod Amounts
 pub mod Quotient
 pub mod Listed
 pub mod Loops
+pub mod Entries
+pub mod Least
