@@ -1,2 +1,4 @@
 pub mod WordLaws
+pub mod Parts
 pub mod BlockLaws
+pub mod Written

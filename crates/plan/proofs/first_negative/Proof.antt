@@ -36,7 +36,11 @@ cast-if1 c = omega arith
 returns : tie.Need-returns Inv-loop μ-loop
 unfolding firstNegative period
 returns c =
-    sym (first-is _ _ _ (c .before .before .before .before .before .before .loop-test .taken) (rw (← c .before .word-at .ensures, ← c .before .before .before .before .before .demand .ensures) (lt-ltb _ _ (c .if1 .taken))) (c .before .before .before .before .before .before .before .loop .inv .1))
+    let c1 = c .before in
+    let c5 = c1 .before .before .before .before in
+    let c6 = c5 .before in
+    let c7 = c6 .before in
+    sym (first-is _ _ _ (c6 .loop-test .taken) (rw (← c1 .word-at .ensures, ← c5 .demand .ensures) (lt-ltb _ _ (c .if1 .taken))) (c7 .loop .inv .1))
 
 add-s : tie.Need-add-s Inv-loop μ-loop
 add-s c = omega arith

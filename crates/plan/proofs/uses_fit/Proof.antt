@@ -19,7 +19,10 @@ one-subsystem-each-requires c κs = search needs
 
 returns-2 : tie.Need-returns-2
 unfolding usesFit taskUsesFit useFits lengthFits oneSubsystem isGlobal declares lengthOf budget owner
-returns-2 c = rw (sym (c .before .before .before .before .before .before .before .before .before .lengths-fit .ensures) ∙ not-false _ (c .before .before .before .before .before .before .before .before .if1 .left)) (c .one-subsystem-each .ensures)
+returns-2 c =
+    let c8 = c .before .before .before .before .before .before .before .before in
+    let c9 = c8 .before in
+    rw (sym (c9 .lengths-fit .ensures) ∙ not-false _ (c8 .if1 .left)) (c .one-subsystem-each .ensures)
 
 pub uses-fit-spec : {M : Type 1} → statement M
 uses-fit-spec =
