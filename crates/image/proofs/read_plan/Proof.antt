@@ -1,3 +1,4 @@
+-- Each table is read from its place. Budgets stand two bytes behind periods.
 use mathlib.Core.Path.{_≡_, ap, _∙_}
 use Prim.Native.Nat.{ℕ, _+_, _*_}
 use native.Mathlib.Omega.{arith}

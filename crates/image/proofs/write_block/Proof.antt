@@ -1,3 +1,4 @@
+-- Every section is pasted in behind the one before it.
 use denote.Ref.{now}
 use mathlib.Core.Path.{_≡_, sym, _∙_}
 use native.Mathlib.Omega.{arith}

@@ -1,3 +1,4 @@
+-- The conditions in their order: a false one decides, and a true one leaves the rest.
 use mathlib.Core.Path.{sym, _∙_}
 use borrow.Author.Tests.{not-true, not-false}
 use Rattle.plan.specs.Admission.{admitted}

@@ -1,3 +1,4 @@
+-- Both numbers have at most 42 bits, so the signed difference is theirs.
 use mathlib.Core.Path.{ap₂, _∙_}
 use Prim.Native.Nat.{ℕ}
 use lib.IntN.{pos, _-ℤ_}

@@ -1,3 +1,4 @@
+-- The loop's invariant: the buffer at entry, with as many bytes of the list pasted in as were passed.
 use denote.Ref.{now}
 use native.Mathlib.Omega.{arith}
 use borrow.Author.Needs.{needs}

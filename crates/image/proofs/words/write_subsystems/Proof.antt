@@ -1,3 +1,4 @@
+-- The loop's invariant: the buffer at entry, with the words of the rows passed pasted in.
 use denote.Ref.{now}
 use native.Mathlib.Omega.{arith}
 use borrow.Author.Needs.{needs}

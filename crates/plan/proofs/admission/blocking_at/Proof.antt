@@ -1,3 +1,4 @@
+-- Each test on the way is one of the three that the definition joins.
 use borrow.Author.Tests.{eq-eqb, ne-eqb, le-leb, lt-leb}
 use Rattle.plan.specs.Plan.{owner, isGlobal, lengthOf, declares, level}
 use Rattle.plan.specs.Lent.{blockingAt}

@@ -1,3 +1,4 @@
+-- The loop's invariant: no task passed declares the resource.
 use native.Mathlib.Omega.{arith}
 use borrow.Author.Needs.{needs}
 use mathlib.Core.Path.{_≡_}

@@ -1,3 +1,4 @@
+-- Each test on the way is one of those that the definition joins, for a global resource and for a local one.
 use borrow.Author.Tests.{eq-eqb, ne-eqb, le-leb, lt-leb}
 use Rattle.plan.specs.Plan.{budget, owner, isGlobal, lengthOf}
 use Rattle.plan.specs.Accepted.{lengthFits}
