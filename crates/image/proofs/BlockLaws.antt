@@ -1,112 +1,26 @@
 -- The plan block both ways: what a block reads as is written as the block again, and a plan's block reads as the plan.
 use mathlib.Core.Path.{_≡_, refl, sym, ap, ap₂, _∙_}
 use mathlib.Core.Bool.{Bool, true, false, _&&_, true≢false, and-eq-true-iff}
-use mathlib.Core.List.{List, [], _∷_, _++_, append-assoc}
-use Prim.Native.Nat.{ℕ, zero, suc, _+_, _*_, _/_, _%_, _≤_, _<_}
+use mathlib.Core.List.{List, [], _∷_, _++_}
+use Prim.Native.Nat.{ℕ, _+_, _*_, _<_}
 use native.Mathlib.Nat.{add-assoc}
 use native.Mathlib.Omega.{arith}
 use lib.Dec.{eqb}
-use lib.ListN.{length, set, getD, take, drop, length-take, length-drop, take-append-drop, List·getD-append}
-use lib.Seq.{take-suc, take-all, drop-drop, drop-at, getD-drop, getD-take, paste, take-paste, length-paste}
+use lib.ListN.{length, getD, drop, length-drop, List·getD-append}
+use lib.Seq.{take-all, drop-drop, drop-at, getD-drop}
 use borrow.Author.Tests.{eqb-true, eqb-false, eq-eqb, ne-eqb}
-use Rattle.below.specs.Listed.{listed, listedOnto}
-use Rattle.below.proofs.Listed.{length-listed, listed-suc, listed-is}
+use Rattle.below.specs.Listed.{listed}
+use Rattle.below.proofs.Listed.{listed-is}
 use Rattle.text.specs.Bytes.{same}
 use Rattle.plan.specs.declared.Plan.{Plan}
 use Rattle.plan.specs.Limits.{mostSubsystems, mostTasks, mostResources}
 use Rattle.plan.specs.Accepted.{accepted}
 use Rattle.image.specs.declared.Block.{Block}
-use Rattle.image.specs.Words.{word, words, byteAt, wordAt}
+use Rattle.image.specs.Words.{words, byteAt, wordAt}
 use Rattle.image.specs.Block.{blockBytes, subsystemWords, blockOf, planOf, isBlock, blockNumber}
 use Rattle.image.specs.BlockCalls.{blockRefused, blockRead}
-use Rattle.image.proofs.WordLaws.{HasWord, word-read, word-after, word-before, length-words, words-has, length-subsystemWords, periods-has, budgets-has}
-
--- sections that grow at their end
-
-words-append : (l m : List ℕ) → words (l ++ m) ≡ words l ++ words m
-unfolding words
-words-append [] m = refl
-words-append (n ∷ l) m = ap (λ (r : List ℕ). word n ++ r) (words-append l m) ∙ sym (append-assoc (word n) (words l) (words m))
-
-subsystemWords-append : (ps qs : List ℕ) (p q : ℕ) → length ps ≡ length qs
-    → subsystemWords (ps ++ (p ∷ [])) (qs ++ (q ∷ [])) ≡ (subsystemWords ps qs ++ word p) ++ word q
-unfolding subsystemWords word
-subsystemWords-append [] [] p q e = refl
-subsystemWords-append [] (b ∷ qs) p q e = absurd (omega arith)
-subsystemWords-append (a ∷ ps) [] p q e = absurd (omega arith)
-subsystemWords-append (a ∷ ps) (b ∷ qs) p q e =
-    ap (λ (r : List ℕ). word a ++ (word b ++ r)) (subsystemWords-append ps qs p q (omega arith))
-
--- what is read from a list of bytes is that part of the list
-
-module _ (b : List ℕ) (at : ℕ) where
-  bytes-part : (n : ℕ) → at + n ≤ length b → listed n (λ t. byteAt b (at + t)) ≡ take n (drop at b)
-  unfolding byteAt
-  bytes-part n h =
-      sym (listed-is n (λ t. getD b (at + t) 0) 0 (take n (drop at b))
-      (simp (length-take, length-drop) (omega arith))
-      (λ k u. getD-take n (drop at b) k 0 u ∙ getD-drop at b k 0))
-
-  module _ (small : (k : ℕ) → getD b k 0 < 256) where
-    -- one word more
-    word-part : (j : ℕ) → at + j + 2 ≤ length b → take j (drop at b) ++ word (wordAt b (at + j)) ≡ take (j + 2) (drop at b)
-    unfolding word wordAt byteAt
-    word-part j h =
-        let d = drop at b in
-        let e = length-drop at b in
-        let x = getD b (at + j) 0 in
-        let y = getD b (at + j + 1) 0 in
-        let u : x < 256 = small (at + j) in
-        let low : (x + 256 * y) % 256 ≡ x = omega arith in
-        let high : (x + 256 * y) / 256 ≡ y = omega arith in
-        let next : at + j + 1 ≡ at + suc j = omega arith in
-        let two : suc (suc j) ≡ j + 2 = omega arith in
-        ap₂ (λ (l m : ℕ). take j d ++ (l ∷ m ∷ []))
-        (low ∙ sym (getD-drop at b j 0))
-        (high ∙ ap (λ (k : ℕ). getD b k 0) next ∙ sym (getD-drop at b (suc j) 0))
-        ∙ sym (append-assoc (take j d) (getD d j 0 ∷ []) (getD d (suc j) 0 ∷ []))
-        ∙ ap (λ (l : List ℕ). l ++ (getD d (suc j) 0 ∷ [])) (sym (take-suc d j 0 (omega arith)))
-        ∙ sym (take-suc d (suc j) 0 (omega arith))
-        ∙ ap (λ (k : ℕ). take k d) two
-
-    words-part : (n : ℕ) → at + 2 * n ≤ length b → words (listed n (λ i. wordAt b (at + 2 * i))) ≡ take (2 * n) (drop at b)
-    unfolding words word listed listedOnto
-    words-part zero h = refl
-    words-part (suc n) h =
-        let f : ℕ → ℕ = λ i. wordAt b (at + 2 * i) in
-        let two : 2 * n + 2 ≡ 2 * suc n = omega arith in
-        ap words (listed-suc n f)
-        ∙ words-append (listed n f) (f n ∷ [])
-        ∙ ap (λ (l : List ℕ). l ++ word (f n)) (words-part n (omega arith))
-        ∙ word-part (2 * n) (omega arith)
-        ∙ ap (λ (k : ℕ). take k (drop at b)) two
-
-    subsystems-part : (n : ℕ) → at + 4 * n ≤ length b
-        → subsystemWords (listed n (λ s. wordAt b (at + 4 * s))) (listed n (λ s. wordAt b (at + 4 * s + 2))) ≡ take (4 * n) (drop at b)
-    unfolding subsystemWords listed listedOnto
-    subsystems-part zero h = refl
-    subsystems-part (suc n) h =
-        let f : ℕ → ℕ = λ s. wordAt b (at + 4 * s) in
-        let g : ℕ → ℕ = λ s. wordAt b (at + 4 * s + 2) in
-        let four : 4 * n + 2 + 2 ≡ 4 * suc n = omega arith in
-        ap₂ subsystemWords (listed-suc n f) (listed-suc n g)
-        ∙ subsystemWords-append (listed n f) (listed n g) (f n) (g n) (length-listed n f ∙ sym (length-listed n g))
-        ∙ ap (λ (l : List ℕ). (l ++ word (f n)) ++ word (g n)) (subsystems-part n (omega arith))
-        ∙ ap₂ (λ (l : List ℕ) (k : ℕ). l ++ word (wordAt b k)) (word-part (4 * n) (omega arith)) (add-assoc at (4 * n) 2)
-        ∙ word-part (4 * n + 2) (omega arith)
-        ∙ ap (λ (k : ℕ). take k (drop at b)) four
-
--- the part from m on begins with its first n
-rejoined : (b : List ℕ) (m n : ℕ) → take n (drop m b) ++ drop (m + n) b ≡ drop m b
-rejoined b m n = ap (λ (l : List ℕ). take n (drop m b) ++ l) (sym (drop-drop n m b)) ∙ take-append-drop n (drop m b)
-
--- a list of at least four begins with its first four
-four : (b : List ℕ) → 4 ≤ length b → getD b 0 0 ∷ getD b 1 0 ∷ getD b 2 0 ∷ getD b 3 0 ∷ drop 4 b ≡ b
-four [] h = absurd (omega arith)
-four (a ∷ []) h = absurd (omega arith)
-four (a ∷ b ∷ []) h = absurd (omega arith)
-four (a ∷ b ∷ c ∷ []) h = absurd (omega arith)
-four (a ∷ b ∷ c ∷ d ∷ l) h = refl
+use Rattle.image.proofs.Parts.{bytes-part, words-part, subsystems-part, rejoined, four}
+use Rattle.image.proofs.WordLaws.{HasWord, word-read, word-after, word-before, words-has, length-subsystemWords, periods-has, budgets-has}
 
 pub block-of-plan-of : (b : List ℕ) → length b ≡ blockBytes → ((k : ℕ) → getD b k 0 < 256) → byteAt b 3 ≡ 0 → blockOf (planOf b) ≡ b
 unfolding blockOf planOf byteAt
@@ -140,7 +54,7 @@ module _ (p : Plan) (sized : Sized p) where
   equally : length (p .periods) ≡ length (p .budgets)
   equally = sized .periods ∙ sym (sized .budgets)
 
-  subsystems-long : length (subsystemWords (p .periods) (p .budgets)) ≡ 32
+  pub subsystems-long : length (subsystemWords (p .periods) (p .budgets)) ≡ 32
   subsystems-long = omega (arith, length-subsystemWords (p .periods) (p .budgets) equally, sized .periods)
 
   behind : (l m : List ℕ) (n k : ℕ) → drop n (blockOf p) ≡ l ++ m → length l ≡ k → drop (n + k) (blockOf p) ≡ m
@@ -260,67 +174,3 @@ read-refused b n e f = rw (e, f)
 pub read-accepted : (b : List ℕ) → blockNumber b ≡ 0 → _≡_ {A = Block} (record { number = 0; plan = planOf b }) (blockRead b)
 unfolding blockRead
 read-accepted b e = rw e
-
--- writing a block section by section: the first n bytes of a buffer of the block's length are w
-record Begun (d : List ℕ) (n : ℕ) (w : List ℕ) : Type 0 where
-  begins : take n d ≡ w
-  long : length d ≡ blockBytes
-
-begun-next : (d : List ℕ) (n : ℕ) (w s : List ℕ) (k : ℕ) → Begun d n w → length s ≡ k → n + k ≤ blockBytes → Begun (paste d n s k) (n + k) (w ++ s)
-begun-next d n w s k b e h =
-    record {
-      begins = take-paste d n s k (omega (arith, b .long)) (omega arith) ∙ ap₂ _++_ (b .begins) (take-all k s (omega arith));
-      long = length-paste d n s k (omega (arith, b .long)) (omega arith) ∙ b .long;
-    }
-
-begun-first : (d : List ℕ) (a b c : ℕ) → length d ≡ blockBytes → Begun (set (set (set (set d 0 a) 1 b) 2 c) 3 0) 4 (a ∷ b ∷ c ∷ 0 ∷ [])
-begun-first [] a b c e = absurd (omega arith)
-begun-first (x ∷ []) a b c e = absurd (omega arith)
-begun-first (x ∷ y ∷ []) a b c e = absurd (omega arith)
-begun-first (x ∷ y ∷ z ∷ []) a b c e = absurd (omega arith)
-begun-first (x ∷ y ∷ z ∷ u ∷ d) a b c e = record { begins = refl; long = e }
-
-abbrev counted : Plan → List ℕ → List ℕ
-counted p d = set (set (set (set d 0 (p .subsystems)) 1 (p .tasks)) 2 (p .resources)) 3 0
-
-pub written : (p : Plan) → Sized p → (d : List ℕ) → length d ≡ blockBytes
-    → paste
-    (paste
-    (paste (paste (counted p d) 4 (subsystemWords (p .periods) (p .budgets)) (4 * length (p .periods))) 36 (p .owners) (length (p .owners)))
-    68 (p .kinds) (length (p .kinds)))
-    84 (words (p .lengths)) (2 * length (p .lengths))
-    ≡ blockOf p
-unfolding blockOf
-written p sized d e =
-    rw (sized .periods, sized .owners, sized .kinds, sized .lengths)
-    (sym (take-all blockBytes d4 (omega (arith, b4 .long))) ∙ b4 .begins ∙ simp append-assoc)
-  where
-    d1 : List ℕ
-    d1 = paste (counted p d) 4 (subsystemWords (p .periods) (p .budgets)) 32
-
-    b1 : Begun d1 36 (p .subsystems ∷ p .tasks ∷ p .resources ∷ 0 ∷ subsystemWords (p .periods) (p .budgets))
-    b1 =
-        begun-next (counted p d) 4 (p .subsystems ∷ p .tasks ∷ p .resources ∷ 0 ∷ []) (subsystemWords (p .periods) (p .budgets)) 32
-        (begun-first d (p .subsystems) (p .tasks) (p .resources) e)
-        (subsystems-long p sized)
-        (omega arith)
-
-    d2 : List ℕ
-    d2 = paste d1 36 (p .owners) 32
-
-    d3 : List ℕ
-    d3 = paste d2 68 (p .kinds) 16
-
-    d4 : List ℕ
-    d4 = paste d3 84 (words (p .lengths)) 1024
-
-    all-long : length (words (p .lengths)) ≡ 1024
-    all-long = omega (arith, length-words (p .lengths), sized .lengths)
-
-    b4 : Begun d4 blockBytes
-        ((((p .subsystems ∷ p .tasks ∷ p .resources ∷ 0 ∷ subsystemWords (p .periods) (p .budgets)) ++ p .owners) ++ p .kinds) ++ words (p .lengths))
-    b4 =
-        begun-next d3 84 _ (words (p .lengths)) 1024
-        (begun-next d2 68 _ (p .kinds) 16 (begun-next d1 36 _ (p .owners) 32 b1 (sized .owners) (omega arith)) (sized .kinds) (omega arith))
-        all-long
-        (omega arith)

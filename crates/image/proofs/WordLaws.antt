@@ -111,6 +111,41 @@ paste-words d at s j v w hd hs hv hw =
     ∙ paste-word d at s (j + 2) w (omega arith) (omega arith) hw
     ∙ ap (paste d at s) (add-assoc j 2 2)
 
+-- one turn of each loop: l is the buffer before it, and its stores make the buffer after it
+
+pub bytes-turn : (d : List ℕ) (at : ℕ) (a : List ℕ) (i : ℕ) (l : List ℕ) → i < length a → at + length a ≤ length d → l ≡ paste d at a i
+    → set l (at + i) (getD a i 0) ≡ paste d at a (i + 1)
+bytes-turn d at a i l h hd e =
+    ap (λ (m : List ℕ). set m (at + i) (getD a i 0)) e ∙ paste-byte d at a i (getD a i 0) (omega arith) h refl
+
+pub words-turn : (d : List ℕ) (at : ℕ) (a : List ℕ) (i : ℕ) (l m : List ℕ) → i < length a → at + 2 * length a ≤ length d → l ≡ paste d at (words a) (2 * i)
+    → m ≡ set (set l (at + 2 * i) (getD a i 0 % 256)) (at + 2 * i + 1) (getD a i 0 / 256)
+    → m ≡ paste d at (words a) (2 * (i + 1))
+words-turn d at a i l m h hd e f =
+    let w = getD a i 0 in
+    let long = length-words a in
+    let two : 2 * i + 2 ≡ 2 * (i + 1) = omega arith in
+    f
+    ∙ ap (λ (r : List ℕ). set (set r (at + 2 * i) (w % 256)) (at + 2 * i + 1) (w / 256)) e
+    ∙ paste-word d at (words a) (2 * i) w (omega arith) (omega arith) (words-has a i h)
+    ∙ ap (paste d at (words a)) two
+
+pub subsystems-turn : (d : List ℕ) (at : ℕ) (ps qs : List ℕ) (s : ℕ) (l m n : List ℕ) → length ps ≡ length qs → s < length ps
+    → at + 4 * length ps ≤ length d → l ≡ paste d at (subsystemWords ps qs) (4 * s)
+    → m ≡ set (set l (at + 4 * s) (getD ps s 0 % 256)) (at + 4 * s + 1) (getD ps s 0 / 256)
+    → n ≡ set (set m (at + 4 * s + 2) (getD qs s 0 % 256)) (at + 4 * s + 2 + 1) (getD qs s 0 / 256)
+    → n ≡ paste d at (subsystemWords ps qs) (4 * (s + 1))
+subsystems-turn d at ps qs s l m n eq h hd e f g =
+    let v = getD ps s 0 in
+    let w = getD qs s 0 in
+    let long = length-subsystemWords ps qs eq in
+    let four : 4 * s + 4 ≡ 4 * (s + 1) = omega arith in
+    g
+    ∙ ap (λ (r : List ℕ). set (set r (at + 4 * s + 2) (w % 256)) (at + 4 * s + 2 + 1) (w / 256))
+    (f ∙ ap (λ (r : List ℕ). set (set r (at + 4 * s) (v % 256)) (at + 4 * s + 1) (v / 256)) e)
+    ∙ paste-words d at (subsystemWords ps qs) (4 * s) v w (omega arith) (omega arith) (periods-has ps qs s eq h) (budgets-has ps qs s eq h)
+    ∙ ap (paste d at (subsystemWords ps qs)) four
+
 -- steps: the one of number i, below n, ends within n of them
 pub stepped : (i n step : ℕ) → i < n → step * i + step ≤ step * n
 stepped i n step h = rw (← mul-suc) (mul-le-mul-left step h)

@@ -1,3 +1,4 @@
+-- Length, byte 3 and the plan are tested in this order, and no further test is needed: the other bytes are written as they were read.
 use mathlib.Core.Path.{_≡_, refl, sym, ap, _∙_}
 use mathlib.Core.Bool.{true, false, and-false}
 use Prim.Native.Nat.{ℕ, _<_}

@@ -1,3 +1,4 @@
+-- Each table is read from its place. Budgets stand two bytes behind periods.
 use mathlib.Core.Path.{_≡_, ap, _∙_}
 use Prim.Native.Nat.{ℕ, _+_, _*_}
 use native.Mathlib.Omega.{arith}
@@ -52,11 +53,17 @@ shared-slice-read-t23 c = search needs
 returns : tie.Need-returns
 unfolding planOf byteAt
 returns c =
-    let b = now (c .before .before .before .before .before .before .before .before .before .before .before .before .before .before .before .before .before .before .before .args .b) in
+    let c4 = c .before .before .before .before in
+    let c7 = c4 .before .before .before in
+    let c10 = c7 .before .before .before in
+    let c13 = c10 .before .before .before in
+    let c16 = c13 .before .before .before in
+    let c19 = c16 .before .before .before in
+    let b = now (c19 .args .b) in
     let next : (s : ℕ) → 6 + 4 * s ≡ 4 + 4 * s + 2 = λ s. omega arith in
     let budgets : listed 8 (λ s. wordAt b (6 + 4 * s)) ≡ listed 8 (λ s. wordAt b (4 + 4 * s + 2))
     = listed-agree 8 (λ s. wordAt b (6 + 4 * s)) (λ s. wordAt b (4 + 4 * s + 2)) (λ s h. ap (wordAt b) (next s)) in
-    rw (c .before .before .before .before .before .before .before .before .before .before .before .before .before .before .before .before .read-words .ensures, c .before .before .before .before .before .before .before .before .before .before .before .before .before .read-words2 .ensures ∙ budgets, c .before .before .before .before .before .before .before .before .before .before .read-bytes .ensures, c .before .before .before .before .before .before .before .read-bytes2 .ensures, c .before .before .before .before .read-words3 .ensures)
+    rw (c16 .read-words .ensures, c13 .read-words2 .ensures ∙ budgets, c10 .read-bytes .ensures, c7 .read-bytes2 .ensures, c4 .read-words3 .ensures)
 
 pub read-plan-spec : {M : Type 1} → statement M
 read-plan-spec =

@@ -1,3 +1,4 @@
+-- Repeated zeros are the tables of the plan of no line.
 use mathlib.Core.Path.{refl}
 use Rattle.reader.specs.Reading.{emptyPlan}
 use Rattle.image.specs.BlockCalls.{blockRefused}

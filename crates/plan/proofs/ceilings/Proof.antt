@@ -1,3 +1,4 @@
+-- The tables that were not lent do not stand in the definition.
 use Rattle.plan.specs.Plan.{owner, isGlobal, lengthOf, declares, level, foremost}
 use Rattle.plan.specs.Ceiling.{ceiling, globalCeiling, localCeiling}
 use borrow.Author.Needs.{needs}

@@ -1,12 +1,13 @@
+-- The loop's invariant: no row passed has a negative margin.
 use native.Mathlib.Omega.{arith}
 use borrow.Author.Needs.{needs}
-use mathlib.Core.Path.{_≡_, sym, _∙_}
+use mathlib.Core.Path.{_≡_}
 use mathlib.Core.Bool.{false}
 use Prim.Native.Nat.{ℕ, _≤_, _<_, _-_}
 use lib.Dec.{ltb}
 use borrow.Author.Count.{below-none, below-more}
 use borrow.Author.Tests.{lt-ltb, le-ltb}
-use Rattle.below.proofs.Search.{first-is, first-absent}
+use Rattle.below.proofs.Loops.{first-left, first-ended}
 use Rattle.plan.specs.Plan.{period}
 use Rattle.plan.specs.Admission.{demand, firstNegative}
 use Rattle.plan.proofs.first_negative.Statement.{statement}
@@ -36,7 +37,11 @@ cast-if1 c = omega arith
 returns : tie.Need-returns Inv-loop μ-loop
 unfolding firstNegative period
 returns c =
-    sym (first-is _ _ _ (c .before .before .before .before .before .before .loop-test .taken) (rw (← c .before .word-at .ensures, ← c .before .before .before .before .before .demand .ensures) (lt-ltb _ _ (c .if1 .taken))) (c .before .before .before .before .before .before .before .loop .inv .1))
+    let c1 = c .before in
+    let c5 = c1 .before .before .before .before in
+    let c6 = c5 .before in
+    let c7 = c6 .before in
+    first-left _ _ _ (c6 .loop-test .taken) (rw (← c1 .word-at .ensures, ← c5 .demand .ensures) (lt-ltb _ _ (c .if1 .taken))) (c7 .loop .inv .1)
 
 add-s : tie.Need-add-s Inv-loop μ-loop
 add-s c = omega arith
@@ -54,9 +59,7 @@ loop-again c = (
 
 returns-2 : tie.Need-returns-2 Inv-loop μ-loop
 unfolding firstNegative
-returns-2 c =
-    let e : c .before .loop .s ≡ c .before .before .args .t1 .subsystems = omega arith in
-    e ∙ sym (first-absent _ _ (rw e at (c .before .loop .inv .1)))
+returns-2 c = first-ended _ _ _ (c .before .loop .inv .0) (c .loop-test .left) (c .before .loop .inv .1)
 
 pub first-negative-spec : {M : Type 1} → statement M
 first-negative-spec =

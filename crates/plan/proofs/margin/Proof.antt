@@ -1,3 +1,4 @@
+-- Both numbers have at most 42 bits, so the signed difference is theirs.
 use mathlib.Core.Path.{ap₂, _∙_}
 use Prim.Native.Nat.{ℕ}
 use lib.IntN.{pos, _-ℤ_}
@@ -25,7 +26,9 @@ sub-result c = difference-fits (c .word-at .result) (c .before .before .before .
 
 returns : tie.Need-returns
 unfolding margin period
-returns c = difference-is (c .word-at .result) (c .before .before .before .before .demand-of .result) (search needs) (search needs) ∙ ap₂ (λ (m n : ℕ). pos m -ℤ pos n) (c .word-at .ensures) (c .before .before .before .before .demand-of .ensures .0)
+returns c =
+    let c4 = c .before .before .before .before in
+    difference-is (c .word-at .result) (c4 .demand-of .result) (search needs) (search needs) ∙ ap₂ (λ (m n : ℕ). pos m -ℤ pos n) (c .word-at .ensures) (c4 .demand-of .ensures .0)
 
 pub margin-spec : {M : Type 1} → statement M
 margin-spec =

@@ -1,3 +1,4 @@
+-- The conditions in their order: a false one decides, and a true one leaves the rest.
 use mathlib.Core.Path.{sym, _∙_}
 use borrow.Author.Tests.{not-true, not-false}
 use Rattle.plan.specs.Plan.{budget, owner, isGlobal, lengthOf, declares}
@@ -19,7 +20,10 @@ one-subsystem-each-requires c κs = search needs
 
 returns-2 : tie.Need-returns-2
 unfolding usesFit taskUsesFit useFits lengthFits oneSubsystem isGlobal declares lengthOf budget owner
-returns-2 c = rw (sym (c .before .before .before .before .before .before .before .before .before .lengths-fit .ensures) ∙ not-false _ (c .before .before .before .before .before .before .before .before .if1 .left)) (c .one-subsystem-each .ensures)
+returns-2 c =
+    let c8 = c .before .before .before .before .before .before .before .before in
+    let c9 = c8 .before in
+    rw (sym (c9 .lengths-fit .ensures) ∙ not-false _ (c8 .if1 .left)) (c .one-subsystem-each .ensures)
 
 pub uses-fit-spec : {M : Type 1} → statement M
 uses-fit-spec =

@@ -1,3 +1,4 @@
+-- The loop's invariant: the entries passed are the bytes at their places.
 use native.Mathlib.Omega.{arith}
 use borrow.Author.Needs.{needs}
 use mathlib.Core.Path.{_≡_, refl}

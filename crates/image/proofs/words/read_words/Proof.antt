@@ -1,3 +1,4 @@
+-- The loop's invariant: the entries passed are the numbers at their places. A place of number i ends within the steps of all.
 use denote.Ref.{now}
 use native.Mathlib.Omega.{arith}
 use borrow.Author.Needs.{needs}

@@ -1,3 +1,4 @@
+-- Two bytes fit into 16 bits.
 use Prim.Native.Nat.{_+_}
 use native.Mathlib.Omega.{arith}
 use Rattle.image.specs.Words.{byteAt, wordAt}

@@ -1,12 +1,12 @@
+-- The loop's invariant: the buffer at entry, with as many bytes of the list pasted in as were passed.
 use denote.Ref.{now}
 use native.Mathlib.Omega.{arith}
 use borrow.Author.Needs.{needs}
-use mathlib.Core.Path.{_≡_, refl, ap, _∙_}
-use Prim.Native.Nat.{ℕ, _+_, _-_, _≤_}
-use mathlib.Core.List.{List}
-use lib.ListN.{length, getD, set, length-set}
+use mathlib.Core.Path.{_≡_, refl}
+use Prim.Native.Nat.{_-_, _≤_}
+use lib.ListN.{length, length-set}
 use lib.Seq.{paste, paste-zero}
-use Rattle.image.proofs.WordLaws.{paste-byte}
+use Rattle.image.proofs.WordLaws.{bytes-turn}
 use Rattle.image.proofs.words.write_bytes.Statement.{statement}
 use Rattle.image.proofs.words.write_bytes.Tie as tie
 
@@ -39,11 +39,10 @@ loop-less c = omega arith
 loop-again : tie.Need-loop-again Inv-loop μ-loop
 loop-again c =
     let a = c .before .before .before .args in
-    let i = c .before .before .loop .i in (
+    let l = c .before .before .loop in (
       omega arith,
-      simp length-set (c .before .before .loop .inv .1),
-      ap (λ (l : List ℕ). set l (a .at + i) (getD (now (a .a)) i 0)) (c .before .before .loop .inv .2)
-          ∙ paste-byte (now (a .block)) (a .at) (now (a .a)) i (getD (now (a .a)) i 0) (omega arith) (omega arith) refl,
+      simp length-set (l .inv .1),
+      bytes-turn (now (a .block)) (a .at) (now (a .a)) (l .i) (l .block) (c .before .loop-test .taken) (c .before .before .before .pre) (l .inv .2),
     )
 
 same-length : tie.Need-same-length Inv-loop μ-loop

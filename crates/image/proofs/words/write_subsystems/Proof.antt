@@ -1,13 +1,13 @@
+-- The loop's invariant: the buffer at entry, with the words of the rows passed pasted in.
 use denote.Ref.{now}
 use native.Mathlib.Omega.{arith}
 use borrow.Author.Needs.{needs}
-use mathlib.Core.Path.{_≡_, refl, ap, _∙_}
-use Prim.Native.Nat.{ℕ, _+_, _*_, _-_, _/_, _%_, _≤_}
-use mathlib.Core.List.{List}
-use lib.ListN.{length, getD, set}
+use mathlib.Core.Path.{_≡_, refl, _∙_}
+use Prim.Native.Nat.{_*_, _-_, _≤_}
+use lib.ListN.{length}
 use lib.Seq.{paste, paste-zero}
 use Rattle.image.specs.Block.{subsystemWords}
-use Rattle.image.proofs.WordLaws.{length-subsystemWords, periods-has, budgets-has, paste-words}
+use Rattle.image.proofs.WordLaws.{subsystems-turn}
 use Rattle.image.proofs.words.write_subsystems.Statement.{statement}
 use Rattle.image.proofs.words.write_subsystems.Tie as tie
 
@@ -64,23 +64,13 @@ loop-less c = omega arith
 loop-again : tie.Need-loop-again Inv-loop μ-loop
 loop-again c =
     let a = c .before .before .before .before .before .before .before .before .before .before .before .before .before .before .before .args in
-    let s = c .before .before .before .before .before .before .before .before .before .before .before .loop .s in
-    let ps = now (a .periods) in
-    let qs = now (a .budgets) in
-    let v = getD ps s 0 in
-    let w = getD qs s 0 in
-    let e = length-subsystemWords ps qs (c .before .before .before .before .before .before .before .before .before .before .before .before .before .before .before .pre .0) in
-    let four : 4 * s + 4 ≡ 4 * (s + 1) = omega arith in (
+    let l = c .before .before .before .before .before .before .before .before .before .before .before .loop in
+    let put = c .before .before .before .before .before .before .before .put-word in
+    let put2 = c .before .before .put-word2 in (
       omega arith,
-      c .before .before .put-word2 .kept .0 ∙ c .before .before .before .before .before .before .before .put-word .kept .0 ∙ c .before .before .before .before .before .before .before .before .before .before .before .loop .inv .1,
-      c .before .before .put-word2 .ensures
-          ∙ ap (λ (l : List ℕ). set (set l (a .at + 4 * s + 2) (w % 256)) (a .at + 4 * s + 2 + 1) (w / 256))
-          (c .before .before .before .before .before .before .before .put-word .ensures
-          ∙ ap (λ (l : List ℕ). set (set l (a .at + 4 * s) (v % 256)) (a .at + 4 * s + 1) (v / 256)) (c .before .before .before .before .before .before .before .before .before .before .before .loop .inv .2))
-          ∙ paste-words (now (a .block)) (a .at) (subsystemWords ps qs) (4 * s) v w (omega arith) (omega arith)
-          (periods-has ps qs s (c .before .before .before .before .before .before .before .before .before .before .before .before .before .before .before .pre .0) (c .before .before .before .before .before .before .before .before .before .before .loop-test .taken))
-          (budgets-has ps qs s (c .before .before .before .before .before .before .before .before .before .before .before .before .before .before .before .pre .0) (c .before .before .before .before .before .before .before .before .before .before .loop-test .taken))
-          ∙ ap (paste (now (a .block)) (a .at) (subsystemWords ps qs)) four,
+      put2 .kept .0 ∙ put .kept .0 ∙ l .inv .1,
+      subsystems-turn (now (a .block)) (a .at) (now (a .periods)) (now (a .budgets)) (l .s) (l .block) (put .last .0) (put2 .last .0)
+          (c .before .before .before .before .before .before .before .before .before .before .before .before .before .before .before .pre .0) (c .before .before .before .before .before .before .before .before .before .before .loop-test .taken) (c .before .before .before .before .before .before .before .before .before .before .before .before .before .before .before .pre .1) (l .inv .2) (put .ensures) (put2 .ensures),
     )
 
 same-length : tie.Need-same-length Inv-loop μ-loop

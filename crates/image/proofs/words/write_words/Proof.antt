@@ -1,13 +1,13 @@
+-- The loop's invariant: the buffer at entry, with the words of the entries passed pasted in.
 use denote.Ref.{now}
 use native.Mathlib.Omega.{arith}
 use borrow.Author.Needs.{needs}
-use mathlib.Core.Path.{_≡_, refl, ap, _∙_}
-use Prim.Native.Nat.{ℕ, _+_, _*_, _-_, _/_, _%_, _≤_}
-use mathlib.Core.List.{List}
-use lib.ListN.{length, getD, set}
+use mathlib.Core.Path.{_≡_, refl, _∙_}
+use Prim.Native.Nat.{_*_, _-_, _≤_}
+use lib.ListN.{length}
 use lib.Seq.{paste, paste-zero}
 use Rattle.image.specs.Words.{words}
-use Rattle.image.proofs.WordLaws.{length-words, words-has, paste-word}
+use Rattle.image.proofs.WordLaws.{words-turn}
 use Rattle.image.proofs.words.write_words.Statement.{statement}
 use Rattle.image.proofs.words.write_words.Tie as tie
 
@@ -46,16 +46,12 @@ loop-less c = omega arith
 loop-again : tie.Need-loop-again Inv-loop μ-loop
 loop-again c =
     let a = c .before .before .before .before .before .before .before .before .before .args in
-    let i = c .before .before .before .before .before .before .loop .i in
-    let w = getD (now (a .a)) i 0 in
-    let e = length-words (now (a .a)) in
-    let two : 2 * i + 2 ≡ 2 * (i + 1) = omega arith in (
+    let l = c .before .before .before .before .before .before .loop in
+    let put = c .before .before .put-word in (
       omega arith,
-      c .before .before .put-word .kept .0 ∙ c .before .before .before .before .before .before .loop .inv .1,
-      c .before .before .put-word .ensures
-          ∙ ap (λ (l : List ℕ). set (set l (a .at + 2 * i) (w % 256)) (a .at + 2 * i + 1) (w / 256)) (c .before .before .before .before .before .before .loop .inv .2)
-          ∙ paste-word (now (a .block)) (a .at) (words (now (a .a))) (2 * i) w (omega arith) (omega arith) (words-has (now (a .a)) i (c .before .before .before .before .before .loop-test .taken))
-          ∙ ap (paste (now (a .block)) (a .at) (words (now (a .a)))) two,
+      put .kept .0 ∙ l .inv .1,
+      words-turn (now (a .block)) (a .at) (now (a .a)) (l .i) (l .block) (put .last .0) (c .before .before .before .before .before .loop-test .taken) (c .before .before .before .before .before .before .before .before .before .pre) (l .inv .2)
+          (put .ensures),
     )
 
 same-length : tie.Need-same-length Inv-loop μ-loop

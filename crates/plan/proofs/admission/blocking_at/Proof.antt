@@ -1,3 +1,4 @@
+-- Each test on the way is one of the three that the definition joins.
 use borrow.Author.Tests.{eq-eqb, ne-eqb, le-leb, lt-leb}
 use Rattle.plan.specs.Plan.{owner, isGlobal, lengthOf, declares, level}
 use Rattle.plan.specs.Lent.{blockingAt}
@@ -17,18 +18,34 @@ length-at-requires c κs = search needs
 
 returns-2 : tie.Need-returns-2
 unfolding blockingAt isGlobal declares lengthOf level owner
-returns-2 c = rw (← c .before .length-at .ensures, ← c .before .before .before .byte-at .ensures, eq-eqb _ _ (c .if2 .taken), eq-eqb _ _ (c .before .before .if1 .left))
+returns-2 c =
+    let c1 = c .before in
+    let c2 = c1 .before in
+    let c3 = c2 .before in
+    rw (← c1 .length-at .ensures, ← c3 .byte-at .ensures, eq-eqb _ _ (c .if2 .taken), eq-eqb _ _ (c2 .if1 .left))
 
 byte-at-requires-2 : tie.Need-byte-at-requires-2
 byte-at-requires-2 c κs = search needs
 
 returns-3 : tie.Need-returns-3
 unfolding blockingAt isGlobal declares lengthOf level owner
-returns-3 c = rw (← c .before .byte-at2 .ensures, ← c .before .before .before .length-at .ensures, ← c .before .before .before .before .before .byte-at .ensures, eq-eqb _ _ (c .before .before .before .before .if1 .left), ne-eqb _ _ (c .before .before .if2 .left), lt-leb _ _ (c .if3 .taken))
+returns-3 c =
+    let c1 = c .before in
+    let c2 = c1 .before in
+    let c3 = c2 .before in
+    let c4 = c3 .before in
+    let c5 = c4 .before in
+    rw (← c1 .byte-at2 .ensures, ← c3 .length-at .ensures, ← c5 .byte-at .ensures, eq-eqb _ _ (c4 .if1 .left), ne-eqb _ _ (c2 .if2 .left), lt-leb _ _ (c .if3 .taken))
 
 returns-4 : tie.Need-returns-4
 unfolding blockingAt isGlobal declares lengthOf level owner
-returns-4 c = rw (← c .before .byte-at2 .ensures, ← c .before .before .before .length-at .ensures, ← c .before .before .before .before .before .byte-at .ensures, eq-eqb _ _ (c .before .before .before .before .if1 .left), ne-eqb _ _ (c .before .before .if2 .left), le-leb _ _ (c .if3 .left))
+returns-4 c =
+    let c1 = c .before in
+    let c2 = c1 .before in
+    let c3 = c2 .before in
+    let c4 = c3 .before in
+    let c5 = c4 .before in
+    rw (← c1 .byte-at2 .ensures, ← c3 .length-at .ensures, ← c5 .byte-at .ensures, eq-eqb _ _ (c4 .if1 .left), ne-eqb _ _ (c2 .if2 .left), le-leb _ _ (c .if3 .left))
 
 pub blocking-at-spec : {M : Type 1} → statement M
 blocking-at-spec =

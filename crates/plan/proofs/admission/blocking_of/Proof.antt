@@ -1,3 +1,4 @@
+-- The loop's invariant: the greatest over the tasks passed.
 use mathlib.Core.Path.{_≡_, sym}
 use mathlib.Core.List.{[]}
 use Prim.Native.Nat.{_≤_, _-_}

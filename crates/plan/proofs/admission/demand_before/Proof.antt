@@ -1,3 +1,4 @@
+-- The loop's invariant: the sum over the rows passed, and a bound of 33 bits for each of them.
 use mathlib.Core.Path.{_≡_, sym}
 use mathlib.Core.List.{[]}
 use Prim.Native.Nat.{_≤_, _-_, _*_, _^_}

@@ -1,3 +1,4 @@
+-- A budget of 16 bits times a quotient of 17.
 use Prim.Native.Nat.{_*_, _^_, _<_}
 use native.Mathlib.Omega.{arith}
 use borrow.Author.Tests.{le-ltb, lt-ltb}

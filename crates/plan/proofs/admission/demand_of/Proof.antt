@@ -1,3 +1,4 @@
+-- The three parts of the demand, none of which can make the sum wrap.
 use native.Mathlib.Omega.{arith}
 use Rattle.plan.specs.Plan.{period, budget, owner, isGlobal, lengthOf, declares, level}
 use Rattle.plan.specs.Admission.{blocking, demand}

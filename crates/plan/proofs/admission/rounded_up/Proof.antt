@@ -1,3 +1,4 @@
+-- A quotient by 0 is 0, and any other is at most its dividend, which has 17 bits.
 use mathlib.Core.Path.{refl, sym}
 use native.Mathlib.Nat.{div-zero, div-le-self, lt-of-le-of-lt}
 use native.Mathlib.Omega.{arith}

@@ -1,3 +1,4 @@
+-- By the kind of the resource.
 use borrow.Author.Tests.{eq-eqb, ne-eqb}
 use Rattle.plan.specs.Plan.{owner, isGlobal, lengthOf, declares, level, foremost}
 use Rattle.plan.specs.Ceiling.{ceiling, globalCeiling, localCeiling}

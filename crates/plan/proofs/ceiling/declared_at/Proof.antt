@@ -1,3 +1,4 @@
+-- The loop's invariant: no task passed is of this level and declares the resource.
 use native.Mathlib.Omega.{arith}
 use borrow.Author.Needs.{needs}
 use mathlib.Core.Path.{_≡_, sym, _∙_}

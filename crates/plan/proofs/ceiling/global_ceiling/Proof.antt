@@ -1,3 +1,4 @@
+-- The loop's invariant: no level passed has a task that declares the resource.
 use native.Mathlib.Omega.{arith}
 use borrow.Author.Needs.{needs}
 use mathlib.Core.Path.{_≡_, sym, _∙_}

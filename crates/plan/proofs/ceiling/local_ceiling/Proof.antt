@@ -1,3 +1,4 @@
+-- The loop's invariant: no task passed declares the resource.
 use native.Mathlib.Omega.{arith}
 use borrow.Author.Needs.{needs}
 use mathlib.Core.Path.{_≡_}
@@ -27,7 +28,11 @@ length-at-requires c κs = search needs
 
 returns : tie.Need-returns Inv-loop μ-loop
 unfolding localCeiling foremost declares lengthOf
-returns c = first-left _ _ _ (c .before .before .loop-test .taken) (rw (← c .before .length-at .ensures, ne-eqb _ _ (c .if1 .taken))) (c .before .before .before .loop .inv .1)
+returns c =
+    let c1 = c .before in
+    let c2 = c1 .before in
+    let c3 = c2 .before in
+    first-left _ _ _ (c2 .loop-test .taken) (rw (← c1 .length-at .ensures, ne-eqb _ _ (c .if1 .taken))) (c3 .loop .inv .1)
 
 add-t : tie.Need-add-t Inv-loop μ-loop
 add-t c = omega arith
@@ -37,7 +42,10 @@ loop-less c = omega arith
 
 loop-again : tie.Need-loop-again Inv-loop μ-loop
 unfolding declares lengthOf
-loop-again c = (omega arith, below-more _ _ (c .before .before .before .loop .inv .1) (rw (← c .before .length-at .ensures, eq-eqb _ _ (c .if1 .left))))
+loop-again c =
+    let c1 = c .before in
+    let c3 = c1 .before .before in
+    (omega arith, below-more _ _ (c3 .loop .inv .1) (rw (← c1 .length-at .ensures, eq-eqb _ _ (c .if1 .left))))
 
 returns-2 : tie.Need-returns-2 Inv-loop μ-loop
 unfolding localCeiling foremost declares lengthOf

@@ -1,3 +1,4 @@
+-- Each test on the way is one of those that the definition joins.
 use borrow.Author.Tests.{le-leb, lt-leb}
 use Rattle.plan.specs.Accepted.{countsFit}
 use Rattle.plan.proofs.rows.counts_fit.Statement.{statement}

@@ -1,3 +1,4 @@
+-- Each test on the way is one of those that the definition joins, for a row that is there and for one that is not.
 use borrow.Author.Tests.{le-leb, lt-leb, le-ltb, lt-ltb}
 use Rattle.plan.specs.Plan.{owner}
 use Rattle.plan.specs.Accepted.{taskFits}

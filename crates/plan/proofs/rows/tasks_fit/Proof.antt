@@ -1,3 +1,4 @@
+-- The loop's invariant: every row passed fits.
 use native.Mathlib.Omega.{arith}
 use borrow.Author.Needs.{needs}
 use mathlib.Core.Path.{_≡_, sym, _∙_}

@@ -1,3 +1,4 @@
+-- The index is the definition's place of task and resource.
 use Rattle.plan.specs.Plan.{place}
 use borrow.Author.Needs.{needs}
 use Rattle.plan.proofs.tables.length_at.Statement.{statement}

@@ -1,3 +1,4 @@
+-- Past the end the definition reads 0 too.
 use mathlib.Core.Path.{sym}
 use lib.ListN.{List·getD-eq-default}
 use borrow.Author.Needs.{needs}

@@ -1,3 +1,4 @@
+-- One pass from the first task that declares the resource is as good as all pairs.
 use mathlib.Core.Path.{_≡_, _∙_}
 use mathlib.Core.Bool.{false}
 use mathlib.Core.List.{[]}

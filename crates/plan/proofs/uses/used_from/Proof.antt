@@ -1,3 +1,4 @@
+-- The two tests that the definition joins.
 use borrow.Author.Tests.{eq-eqb, ne-eqb}
 use Rattle.plan.specs.Plan.{owner, lengthOf, declares}
 use Rattle.plan.specs.Lent.{usedFrom}
