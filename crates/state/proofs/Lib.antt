@@ -1,0 +1,2 @@
+pub mod TaskFacts
+pub mod Facts
