@@ -2,3 +2,4 @@ pub mod Tests
 pub mod Search
 pub mod Amounts
 pub mod Quotient
+pub mod Listed

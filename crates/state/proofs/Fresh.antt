@@ -1,0 +1,101 @@
+-- "State", fresh: the state that a run starts in is legal.
+use mathlib.Core.Path.{_≡_, refl, sym, ap, _∙_}
+use mathlib.Core.Logic.{_⊎_, inl, inr, ⊎-elim}
+use mathlib.Core.Bool.{Bool, true, false}
+use Prim.Native.Nat.{ℕ, zero, suc, _+_, _≤_, _<_}
+use native.Mathlib.Nat.{le-refl, not-suc-le-zero}
+use native.Mathlib.Omega.{arith}
+use lib.ListN.{length, getD, replicate, length-replicate, getD-replicate}
+use Rattle.below.specs.Listed.{listed}
+use Rattle.below.proofs.Listed.{length-listed, getD-listed}
+use Rattle.below.proofs.Tests.{clash}
+use Rattle.plan.specs.declared.Plan.{Plan}
+use Rattle.plan.specs.Limits.{mostSubsystems, mostTasks, noRow}
+use Rattle.plan.specs.Plan.{period, budget}
+use Rattle.plan.specs.Facts.{Accepted}
+use Rattle.state.specs.declared.Task.{Task}
+use Rattle.state.specs.declared.State.{State}
+use Rattle.state.specs.State.{mostHeld, idleTask, taskAt, leftOf, refillOf, usedOf, isActive, isWaiting, isIdle, isReady, heldAt, inSection}
+use Rattle.state.specs.Fresh.{fresh}
+use Rattle.state.specs.Sized.{Sized}
+use Rattle.state.specs.Facts.{TaskLegal, Legal}
+use Rattle.state.proofs.TaskFacts.{Absent}
+use Rattle.state.proofs.TaskUpdate.{idle-active, idle-waiting, idle-count, idle-held, idle-section, idle-sized}
+use Rattle.state.proofs.Parts.{Ahead, Tasks, CountsAt, NoCounts, legal-of}
+use Rattle.state.proofs.Counts.{counts-out}
+
+-- an idle task is legal at any row, and looks absent
+
+pub idle-legal : (p : Plan) (k : ℕ) → TaskLegal p k idleTask
+unfolding idleTask
+idle-legal p k =
+    record {
+      condition = omega arith;
+      count = omega arith;
+      unheld = λ i l m. idle-held i l;
+      unawaited = λ w. refl;
+      held = λ i l. absurd (not-suc-le-zero l);
+      resting = λ e. refl;
+      waiting = λ w. absurd (clash w idle-waiting);
+    }
+
+pub idle-absent : Absent idleTask
+unfolding idleTask
+idle-absent = (refl, refl, refl, λ i l. idle-held i l)
+
+module _ (p : Plan) where
+  fresh-task : (k : ℕ) → k < mostTasks → taskAt (fresh p) k ≡ idleTask
+  unfolding taskAt fresh
+  fresh-task k h = getD-replicate mostTasks k idleTask idleTask h
+
+  fresh-left : (c : ℕ) → c < mostSubsystems → leftOf (fresh p) c .0 ≡ budget p c
+  unfolding leftOf fresh
+  fresh-left c h = rw (getD-listed mostSubsystems _ c _ h)
+
+  fresh-refill : (c : ℕ) → c < mostSubsystems → refillOf (fresh p) c ≡ period p c
+  unfolding refillOf fresh
+  fresh-refill c h = getD-listed mostSubsystems _ c 0 h
+
+  fresh-used : (c : ℕ) → c < mostSubsystems → usedOf (fresh p) c ≡ 0
+  unfolding usedOf fresh
+  fresh-used c h = getD-replicate mostSubsystems c 0 0 h
+
+  pub fresh-sized : Sized (fresh p)
+  unfolding fresh
+  fresh-sized =
+      record {
+        left = length-listed mostSubsystems _;
+        refill = length-listed mostSubsystems _;
+        used = refl;
+        tasks = refl;
+        held = λ k h. rw (fresh-task k h) idle-sized;
+      }
+
+  fresh-tasks : Accepted p → Tasks p (taskAt (fresh p))
+  fresh-tasks A =
+      record {
+        absent = λ k l h. rw (fresh-task k l) idle-absent;
+        task = λ k h. rw (idle k h) (idle-legal p k);
+        locals = λ k i h l g j m a. absurd (still j m (a .active));
+        globals = λ k h e j m a. still j m (a .active);
+        sections = λ j k h l a b n. absurd (clash (rw (idle j h) at a) (idle-section p));
+      }
+    where
+      idle : (k : ℕ) → k < p .tasks → taskAt (fresh p) k ≡ idleTask
+      idle k h = fresh-task k (omega (arith, A .tasks-most))
+
+      still : (k : ℕ) → k < p .tasks → isActive (taskAt (fresh p) k) ≡ true → ⊥
+      still k h a = clash (rw (idle k h) at a) idle-active
+
+  pub fresh-legal : Accepted p → Legal p (fresh p)
+  fresh-legal A = legal-of p (fresh p) A (fresh-tasks A) counts none
+    where
+      counts : (c : ℕ) → c < p .subsystems → CountsAt p (fresh p) c
+      counts c h =
+          let l : c < mostSubsystems = omega (arith, A .subsystems-most) in
+          counts-out p (fresh p) c (omega (arith, fresh-left c l)) (omega (arith, fresh-refill c l, A .period-whole c h)) (omega (arith, fresh-refill c l))
+          (λ k m o. rw (fresh-task k (omega (arith, A .tasks-most))) (idle-section p))
+          (fresh-used c l)
+
+      none : (c : ℕ) → c < mostSubsystems → p .subsystems ≤ c → NoCounts (fresh p) c
+      none c l h = (fresh-left c l ∙ A .no-budget c l h, fresh-refill c l ∙ A .no-period c l h, fresh-used c l)
