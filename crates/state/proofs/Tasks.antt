@@ -46,6 +46,14 @@ module _ (p : Plan) (k : ℕ) (t : Task) (T : TaskLegal p k t) where
   pub section-held : inSection p t ≡ true → HeldLegal p k t (t .count - 1)
   section-held i = T .held (t .count - 1) (omega (arith, section-count i))
 
+  pub section-there : inSection p t ≡ true → lastHeld t < p .resources
+  unfolding lastHeld
+  section-there i = section-held i .there
+
+  pub section-declares : inSection p t ≡ true → declares p k (lastHeld t) ≡ true
+  unfolding lastHeld
+  section-declares i = section-held i .declared
+
   pub section-active : inSection p t ≡ true → isActive t ≡ true
   section-active i = holder-active (section-count i)
 
