@@ -8,3 +8,4 @@ pub mod Counts
 pub mod Replaced
 pub mod Changed
 pub mod Fresh
+pub mod TaskKept
