@@ -53,9 +53,18 @@ or-right true b e = refl
 or-right false b e = e
 
 -- neither
+
 pub or-neither : (a b : Bool) → a ≡ false → b ≡ false → (a || b) ≡ false
 or-neither true b p q = absurd (true≢false p)
 or-neither false b p q = q
+
+pub or-no-left : (a b : Bool) → (a || b) ≡ false → a ≡ false
+or-no-left true b e = absurd (true≢false e)
+or-no-left false b e = refl
+
+pub or-no-right : (a b : Bool) → (a || b) ≡ false → b ≡ false
+or-no-right true b e = absurd (true≢false e)
+or-no-right false b e = e
 
 -- the second follows where the first fails
 pub or-else : (a b : Bool) → (a ≡ false → b ≡ true) → (a || b) ≡ true

@@ -37,6 +37,10 @@ module _ (t : Task) where
   unfolding readied lastHeld heldAt
   readied-last = refl
 
+  pub readied-sized : length (t .held) ≡ mostHeld → length (readied t .held) ≡ mostHeld
+  unfolding readied
+  readied-sized l = l
+
   pub readied-section : (p : Plan) → inSection p (readied t) ≡ inSection p t
   unfolding readied inSection lastHeld heldAt
   readied-section p = refl
@@ -63,6 +67,10 @@ module _ (t : Task) where
   unfolding started lastHeld heldAt
   started-last = refl
 
+  pub started-sized : length (t .held) ≡ mostHeld → length (started t .held) ≡ mostHeld
+  unfolding started
+  started-sized l = l
+
   pub started-section : (p : Plan) → inSection p (started t) ≡ inSection p t
   unfolding started inSection lastHeld heldAt
   started-section p = refl
@@ -85,6 +93,14 @@ module _ (t : Task) (r : ℕ) where
   pub waitingFor-held : (i : ℕ) → heldAt (waitingFor t r) i ≡ heldAt t i
   unfolding waitingFor heldAt
   waitingFor-held i = refl
+
+  pub waitingFor-last : lastHeld (waitingFor t r) ≡ lastHeld t
+  unfolding waitingFor lastHeld heldAt
+  waitingFor-last = refl
+
+  pub waitingFor-sized : length (t .held) ≡ mostHeld → length (waitingFor t r .held) ≡ mostHeld
+  unfolding waitingFor
+  waitingFor-sized l = l
 
   pub waitingFor-section : (p : Plan) → inSection p (waitingFor t r) ≡ inSection p t
   unfolding waitingFor inSection lastHeld heldAt

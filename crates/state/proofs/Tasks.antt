@@ -29,6 +29,11 @@ condition-cases t h = go (t .condition) h
     go (suc (suc (suc zero))) l = inr refl
     go (suc (suc (suc (suc n)))) l = absurd (omega arith)
 
+-- who holds something is inside a section where the last is a global
+pub holder-section : (p : Plan) (t : Task) → 1 ≤ t .count → inSection p t ≡ isGlobal p (lastHeld t)
+unfolding inSection
+holder-section p t h = rw (le-leb 1 (t .count) h)
+
 module _ (p : Plan) (k : ℕ) (t : Task) (T : TaskLegal p k t) where
   -- who holds something is started or waiting
   pub holder-active : 1 ≤ t .count → isActive t ≡ true
