@@ -2,19 +2,24 @@
 use mathlib.Core.Path.{_≡_, refl, sym, _∙_}
 use mathlib.Core.Logic.{_≢_, ⊎-elim}
 use mathlib.Core.Bool.{Bool, true, false}
-use Prim.Native.Nat.{ℕ, _<_}
+use Prim.Native.Nat.{ℕ, _≤_, _<_}
 use native.Mathlib.Omega.{arith}
 use lib.Dec.{eqb}
-use lib.ListN.{length, length-set}
+use lib.ListN.{length, length-set, List·getD-eq-default}
 use lib.Seq.{getD-set-same, getD-set-other}
 use borrow.Author.Tests.{eqb-true, eqb-false}
 use Rattle.plan.specs.Limits.{mostSubsystems, mostTasks}
 use Rattle.state.specs.declared.BudgetLeft.{BudgetLeft}
 use Rattle.state.specs.declared.Task.{Task}
 use Rattle.state.specs.declared.State.{State}
-use Rattle.state.specs.State.{mostHeld, taskAt, leftOf, refillOf, usedOf}
+use Rattle.state.specs.State.{mostHeld, idleTask, taskAt, leftOf, refillOf, usedOf}
 use Rattle.state.specs.Update.{withTask, withLeft, withUsed}
 use Rattle.state.specs.Sized.{Sized}
+
+-- a row past the last reads as an idle task
+pub taskAt-past : (s : State) (k : ℕ) → Sized s → mostTasks ≤ k → taskAt s k ≡ idleTask
+unfolding taskAt
+taskAt-past s k z h = List·getD-eq-default (s .tasks) idleTask (rw (z .tasks) h)
 
 module _ (s : State) (k : ℕ) (t : Task) where
   pub taskAt-withTask : Sized s → k < mostTasks → taskAt (withTask s k t) k ≡ t

@@ -6,3 +6,4 @@ pub mod Charged
 pub mod Refilled
 pub mod Refusals
 pub mod Holders
+pub mod Spent
