@@ -7,3 +7,5 @@ pub mod Refilled
 pub mod Refusals
 pub mod Holders
 pub mod Spent
+pub mod Waited
+pub mod Ticked
