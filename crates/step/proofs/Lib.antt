@@ -9,3 +9,4 @@ pub mod Holders
 pub mod Spent
 pub mod Waited
 pub mod Ticked
+pub mod Stepped
