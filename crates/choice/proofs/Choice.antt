@@ -1,19 +1,18 @@
 -- "Who is chosen": the subsystem. It has budget left and lies below the ceiling of every held global; or it is the holder at the system ceiling, which no row
 -- with budget left lies below; or there is none, no global is held and no budget is left.
-use mathlib.Core.Path.{_≡_, refl, sym, ap, _∙_}
+use mathlib.Core.Path.{_≡_, refl}
 use mathlib.Core.Logic.{_≢_, _⊎_, inl, inr, ⊎-elim}
 use mathlib.Core.Bool.{Bool, true, false, _&&_}
-use Prim.Native.Nat.{ℕ, _+_, _≤_, _<_}
-use native.Mathlib.Nat.{le-refl}
+use Prim.Native.Nat.{ℕ, _≤_, _<_}
 use native.Mathlib.Omega.{arith}
-use lib.Dec.{ltb, eqb}
-use borrow.Author.Tests.{ltb-true, ltb-false, lt-ltb, le-ltb, eqb-true, eq-eqb}
-use Rattle.below.specs.Below.{any, first}
-use Rattle.below.proofs.Search.{Passing, any-of, any-true, first-passes, first-before, first-most}
-use Rattle.below.proofs.Tests.{decided, clash, fails, conjuncts, and-of, and-right}
+use lib.Dec.{ltb}
+use borrow.Author.Tests.{ltb-true, lt-ltb, le-ltb, eqb-true, eq-eqb}
+use Rattle.below.specs.Below.{first}
+use Rattle.below.proofs.Search.{any-of, any-true, first-passes, first-most}
+use Rattle.below.proofs.Tests.{clash, fails, conjuncts}
 use Rattle.plan.specs.declared.Plan.{Plan}
 use Rattle.plan.specs.Limits.{noRow}
-use Rattle.plan.specs.Plan.{owner, declares, level, highest}
+use Rattle.plan.specs.Plan.{owner, level, highest}
 use Rattle.plan.specs.Ceiling.{globalCeiling}
 use Rattle.plan.specs.Facts.{Accepted}
 use Rattle.plan.proofs.Order.{level-there, highest-passes, highest-none, highest-first}

@@ -1,8 +1,8 @@
 -- "Who is chosen": a waiting task taken means that nothing runs.
-use mathlib.Core.Path.{_≡_, refl, sym, ap, _∙_}
+use mathlib.Core.Path.{_≡_, sym, _∙_}
 use mathlib.Core.Logic.{_⊎_, inl, inr, ⊎-elim}
-use mathlib.Core.Bool.{Bool, true, false}
-use Prim.Native.Nat.{ℕ, _≤_, _<_}
+use mathlib.Core.Bool.{true, false}
+use Prim.Native.Nat.{ℕ, _<_}
 use native.Mathlib.Omega.{arith}
 use Rattle.below.proofs.Tests.{decided}
 use Rattle.plan.specs.declared.Plan.{Plan}
@@ -10,7 +10,7 @@ use Rattle.plan.specs.Limits.{noRow}
 use Rattle.plan.specs.Facts.{Accepted}
 use Rattle.state.specs.declared.State.{State}
 use Rattle.state.specs.State.{taskAt, isWaiting}
-use Rattle.choice.specs.Choice.{chosen, taken, runs, chosenTask, running}
+use Rattle.choice.specs.Choice.{chosen, runs, chosenTask, running}
 use Rattle.choice.proofs.Taken.{Takes, taken-takes}
 
 pub runs-waiting : (s : State) (k : ℕ) → isWaiting (taskAt s k) ≡ true → runs s k ≡ noRow

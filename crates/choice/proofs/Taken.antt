@@ -1,26 +1,23 @@
 -- "Who is chosen": the task taken in a subsystem.
-use mathlib.Core.Path.{_≡_, refl, sym, ap, _∙_}
+use mathlib.Core.Path.{_≡_, sym, ap, _∙_}
 use mathlib.Core.Logic.{_≢_, _⊎_, inl, inr, ⊎-elim}
-use mathlib.Core.Bool.{Bool, true, false, not, _&&_, _||_}
-use Prim.Native.Nat.{ℕ, _+_, _≤_, _<_}
-use native.Mathlib.Omega.{arith}
-use lib.Dec.{ltb, eqb}
-use borrow.Author.Tests.{ltb-true, lt-ltb, le-ltb, eqb-true, eq-eqb, not-true}
+use mathlib.Core.Bool.{true, false, not, _&&_}
+use Prim.Native.Nat.{ℕ, _≤_, _<_}
+use borrow.Author.Tests.{lt-ltb, le-ltb, eqb-true, eq-eqb, not-true}
 use Rattle.below.proofs.Search.{all-at, any-false}
-use Rattle.below.proofs.Tests.{decided, clash, fails, conjuncts, and-of, and-right, not-of, or-cases, or-left, or-second}
+use Rattle.below.proofs.Tests.{clash, fails, conjuncts, and-of, or-cases, or-second}
 use Rattle.plan.specs.declared.Plan.{Plan}
 use Rattle.plan.specs.Limits.{noRow}
 use Rattle.plan.specs.Plan.{owner, isGlobal, takenBefore, foremost}
 use Rattle.plan.specs.Ceiling.{localCeiling}
-use Rattle.plan.specs.Facts.{Accepted}
 use Rattle.plan.proofs.Order.{before-total, foremost-passes, foremost-none, foremost-first}
 use Rattle.plan.proofs.Facts.{row-there}
 use Rattle.state.specs.declared.Task.{Task}
 use Rattle.state.specs.declared.State.{State}
-use Rattle.state.specs.State.{taskAt, isReady, isWaiting, isActive, heldAt, inSection}
-use Rattle.state.proofs.Parts.{Engaged, Ahead, Tasks}
+use Rattle.state.specs.State.{taskAt, isReady, isActive, heldAt}
+use Rattle.state.proofs.Parts.{Engaged, Tasks}
 use Rattle.state.proofs.Tasks.{engaged-active}
-use Rattle.choice.specs.Choice.{orNoRow, belowLocals, keptFromReady, mayBeTaken, taken, runs}
+use Rattle.choice.specs.Choice.{orNoRow, belowLocals, keptFromReady, mayBeTaken, taken}
 
 -- task k is ready, no task of c waits or holds a global, and k is below every ceiling of a local resource held in c
 pub record Unbarred (p : Plan) (at : ℕ → Task) (c k : ℕ) : Type 0 where

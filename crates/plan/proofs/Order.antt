@@ -3,8 +3,8 @@ use mathlib.Core.Path.{_≡_}
 use mathlib.Core.Bool.{Bool, true, false}
 use Prim.Native.Nat.{ℕ, _≤_, _<_}
 use native.Mathlib.Omega.{arith}
-use borrow.Author.Tests.{ltb-true, ltb-false, le-ltb}
-use Rattle.below.proofs.Search.{first-le, first-passes, first-before, first-most}
+use borrow.Author.Tests.{ltb-false, le-ltb}
+use Rattle.below.proofs.Search.{first-passes, first-before, first-most}
 use Rattle.plan.specs.declared.Plan.{Plan}
 use Rattle.plan.specs.Plan.{level, highest, takenBefore, foremost}
 

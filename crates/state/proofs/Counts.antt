@@ -1,7 +1,6 @@
 -- "State": how the counts of a subsystem stay legal or become so again: nothing about its section changed, it has no section, or it has this one.
-use mathlib.Core.Path.{_≡_, refl, sym, ap, _∙_}
-use mathlib.Core.Logic.{_⊎_, inl, inr, ⊎-elim}
-use mathlib.Core.Bool.{Bool, true, false}
+use mathlib.Core.Path.{_≡_, sym, ap, _∙_}
+use mathlib.Core.Bool.{true}
 use Prim.Native.Nat.{ℕ, _+_, _≤_, _<_}
 use native.Mathlib.Omega.{arith}
 use Rattle.below.proofs.Tests.{clash, or-right}
@@ -11,7 +10,7 @@ use Rattle.state.specs.declared.Task.{Task}
 use Rattle.state.specs.declared.State.{State}
 use Rattle.state.specs.State.{taskAt, leftOf, refillOf, usedOf, isWaiting, lastHeld, inSection}
 use Rattle.state.proofs.Facts.{NoSection}
-use Rattle.state.proofs.Parts.{Engaged, Tasks, CountsAt}
+use Rattle.state.proofs.Parts.{Tasks, CountsAt}
 use Rattle.state.proofs.Tasks.{engaged-one}
 
 -- a task is inside a section before and after, with the same last resource, or neither time

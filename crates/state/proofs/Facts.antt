@@ -1,23 +1,23 @@
 -- "State": the test of a legal state and its facts with names, each from the other.
-use mathlib.Core.Path.{_≡_, refl}
-use mathlib.Core.Logic.{_⊎_, inl, inr, ⊎-elim}
+use mathlib.Core.Path.{_≡_}
+use mathlib.Core.Logic.{_⊎_, ⊎-elim}
 use mathlib.Core.Bool.{Bool, true, false, not, _&&_, _||_}
 use Prim.Native.Nat.{ℕ, _≤_, _<_}
 use native.Mathlib.Omega.{arith}
 use lib.Dec.{leb, ltb, eqb}
 use borrow.Author.Tests.{leb-true, ltb-true, eqb-true, eqb-false, not-true, lt-ltb, le-leb, eq-eqb, ne-eqb}
-use Rattle.below.specs.Below.{all, any}
+use Rattle.below.specs.Below.{all}
 use Rattle.below.proofs.Search.{all-at, all-of, any-absent, any-false}
-use Rattle.below.proofs.Tests.{decided, clash, fails, conjuncts, and-of, and-right, not-of, or-cases, or-else, or-left, or-right, or-second}
+use Rattle.below.proofs.Tests.{clash, fails, conjuncts, and-of, and-right, not-of, or-cases, or-else, or-left, or-right, or-second}
 use Rattle.plan.specs.declared.Plan.{Plan}
-use Rattle.plan.specs.Limits.{mostSubsystems, mostTasks, noRow}
+use Rattle.plan.specs.Limits.{mostSubsystems, mostTasks}
 use Rattle.plan.specs.Plan.{period, budget, owner, isGlobal, lengthOf, takenBefore}
 use Rattle.plan.specs.Ceiling.{localCeiling}
 use Rattle.plan.specs.Facts.{Accepted}
 use Rattle.state.specs.declared.State.{State}
 use Rattle.state.specs.State.{taskAt, leftOf, refillOf, usedOf, isWaiting, heldAt, lastHeld, inSection, sectionLeft}
-use Rattle.state.specs.Legal.{implies, countsLegal, absentSubsystem, wellWritten, absentTask, heldLegal, restingLegal, waitingLegal, sectionLegal, unusedLegal, activeBefore, localsLegal, globalsLegal, belowSection, sectionsLegal, subsystemLegal, taskLegal, legal}
-use Rattle.state.specs.Facts.{TaskLegal, Legal}
+use Rattle.state.specs.Legal.{countsLegal, absentSubsystem, wellWritten, absentTask, heldLegal, restingLegal, waitingLegal, sectionLegal, unusedLegal, activeBefore, localsLegal, globalsLegal, belowSection, sectionsLegal, subsystemLegal, taskLegal, legal}
+use Rattle.state.specs.Facts.{Legal}
 use Rattle.state.proofs.TaskFacts.{implies-true, implies-of, task-facts, facts-task-written, facts-all-held, facts-resting, facts-waiting, Absent, absent-facts, facts-absent}
 
 -- no task of subsystem c holds a global

@@ -1,27 +1,23 @@
 -- "State", fresh: the state that a run starts in is legal.
-use mathlib.Core.Path.{_≡_, refl, sym, ap, _∙_}
-use mathlib.Core.Logic.{_⊎_, inl, inr, ⊎-elim}
-use mathlib.Core.Bool.{Bool, true, false}
-use Prim.Native.Nat.{ℕ, zero, suc, _+_, _≤_, _<_}
-use native.Mathlib.Nat.{le-refl, not-suc-le-zero}
+use mathlib.Core.Path.{_≡_, refl, _∙_}
+use mathlib.Core.Bool.{true}
+use Prim.Native.Nat.{ℕ, _≤_, _<_}
+use native.Mathlib.Nat.{not-suc-le-zero}
 use native.Mathlib.Omega.{arith}
-use lib.ListN.{length, getD, replicate, length-replicate, getD-replicate}
-use Rattle.below.specs.Listed.{listed}
+use lib.ListN.{getD-replicate}
 use Rattle.below.proofs.Listed.{length-listed, getD-listed}
 use Rattle.below.proofs.Tests.{clash}
 use Rattle.plan.specs.declared.Plan.{Plan}
-use Rattle.plan.specs.Limits.{mostSubsystems, mostTasks, noRow}
+use Rattle.plan.specs.Limits.{mostSubsystems, mostTasks}
 use Rattle.plan.specs.Plan.{period, budget}
 use Rattle.plan.specs.Facts.{Accepted}
-use Rattle.state.specs.declared.Task.{Task}
-use Rattle.state.specs.declared.State.{State}
-use Rattle.state.specs.State.{mostHeld, idleTask, taskAt, leftOf, refillOf, usedOf, isActive, isWaiting, isIdle, isReady, heldAt, inSection}
+use Rattle.state.specs.State.{idleTask, taskAt, leftOf, refillOf, usedOf, isActive}
 use Rattle.state.specs.Fresh.{fresh}
 use Rattle.state.specs.Sized.{Sized}
 use Rattle.state.specs.Facts.{TaskLegal, Legal}
 use Rattle.state.proofs.TaskFacts.{Absent}
-use Rattle.state.proofs.TaskUpdate.{idle-active, idle-waiting, idle-count, idle-held, idle-section, idle-sized}
-use Rattle.state.proofs.Parts.{Ahead, Tasks, CountsAt, NoCounts, legal-of}
+use Rattle.state.proofs.TaskUpdate.{idle-active, idle-waiting, idle-held, idle-section, idle-sized}
+use Rattle.state.proofs.Parts.{Tasks, CountsAt, NoCounts, legal-of}
 use Rattle.state.proofs.Counts.{counts-out}
 
 -- an idle task is legal at any row, and looks absent

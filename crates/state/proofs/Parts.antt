@@ -1,11 +1,11 @@
 -- "State": a legal state in two parts, its tasks and the counts of each subsystem. An event changes one task and the counts of one subsystem.
-use mathlib.Core.Path.{_≡_, refl, sym}
+use mathlib.Core.Path.{_≡_, refl}
 use mathlib.Core.Logic.{_⊎_, inl, inr, ⊎-elim}
-use mathlib.Core.Bool.{Bool, true, false, _||_}
+use mathlib.Core.Bool.{true, false, _||_}
 use Prim.Native.Nat.{ℕ, _+_, _≤_, _<_}
 use native.Mathlib.Omega.{arith}
 use borrow.Author.Tests.{ltb-true, lt-ltb, eqb-true, eq-eqb}
-use Rattle.below.proofs.Tests.{clash, fails, conjuncts, and-of}
+use Rattle.below.proofs.Tests.{clash, fails, conjuncts}
 use Rattle.plan.specs.declared.Plan.{Plan}
 use Rattle.plan.specs.Limits.{mostSubsystems, mostTasks}
 use Rattle.plan.specs.Plan.{period, budget, owner, isGlobal, lengthOf, level, takenBefore}

@@ -2,7 +2,7 @@
 use mathlib.Core.Path.{_≡_, refl, sym, ap, _∙_}
 use mathlib.Core.Logic.{_≢_, _⊎_, inl, inr, ⊎-elim}
 use mathlib.Core.Bool.{Bool, true, false}
-use Prim.Native.Nat.{ℕ, _+_, _≤_, _<_}
+use Prim.Native.Nat.{ℕ, _<_}
 use native.Mathlib.Omega.{arith}
 use lib.Dec.{eqb}
 use borrow.Author.Tests.{eqb-true, eqb-false}
@@ -11,11 +11,9 @@ use Rattle.plan.specs.declared.Plan.{Plan}
 use Rattle.plan.specs.Plan.{owner, isGlobal, takenBefore}
 use Rattle.plan.specs.Ceiling.{localCeiling}
 use Rattle.plan.proofs.Order.{before-irrefl}
-use Rattle.plan.specs.Facts.{Accepted}
 use Rattle.state.specs.declared.Task.{Task}
-use Rattle.state.specs.State.{isActive, heldAt, lastHeld, inSection}
+use Rattle.state.specs.State.{isActive, heldAt, inSection}
 use Rattle.state.specs.Facts.{TaskLegal}
-use Rattle.state.proofs.TaskFacts.{Absent}
 use Rattle.state.proofs.Parts.{Engaged, Ahead, Under, Tasks}
 
 -- t may stand at row k among the other tasks: what it holds binds those taken before it, and those that it is taken before bind it

@@ -1,6 +1,5 @@
 -- "State": the tests of one task by itself and its facts with names, each from the other.
 use mathlib.Core.Path.{_≡_, refl, sym}
-use mathlib.Core.Logic.{_⊎_, inl, inr}
 use mathlib.Core.Bool.{Bool, true, false, not, _&&_, _||_, true≢false}
 use Prim.Native.Nat.{ℕ, _+_, _≤_, _<_}
 use native.Mathlib.Omega.{arith}
@@ -8,7 +7,7 @@ use lib.Dec.{leb, ltb, eqb}
 use borrow.Author.Tests.{leb-true, ltb-true, eqb-true, eqb-false, not-true, lt-ltb, le-leb, eq-eqb, ne-eqb}
 use Rattle.below.specs.Below.{all}
 use Rattle.below.proofs.Search.{all-at, all-of}
-use Rattle.below.proofs.Tests.{decided, conjuncts, and-of, not-of, or-else}
+use Rattle.below.proofs.Tests.{conjuncts, not-of}
 use Rattle.plan.specs.declared.Plan.{Plan}
 use Rattle.plan.specs.Limits.{noRow}
 use Rattle.plan.specs.Plan.{isGlobal, declares}

@@ -1,7 +1,7 @@
 -- "State": a task readied, started, made to wait, taking or giving back a resource is legal by itself.
-use mathlib.Core.Path.{_≡_, refl, sym, ap, _∙_}
-use mathlib.Core.Logic.{_≢_, _⊎_, inl, inr, ⊎-elim}
-use mathlib.Core.Bool.{Bool, true, false, _||_, false≢true, true≢false}
+use mathlib.Core.Path.{_≡_, refl, sym, _∙_}
+use mathlib.Core.Logic.{⊎-elim}
+use mathlib.Core.Bool.{true, false, false≢true, true≢false}
 use Prim.Native.Nat.{ℕ, _+_, _-_, _≤_, _<_}
 use native.Mathlib.Nat.{eq-or-lt-of-le}
 use native.Mathlib.Numerals.{add-one}
@@ -11,13 +11,11 @@ use borrow.Author.Tests.{eq-eqb}
 use Rattle.below.proofs.Search.{any-of, last-or-before}
 use Rattle.below.proofs.Tests.{clash, fails}
 use Rattle.plan.specs.declared.Plan.{Plan}
-use Rattle.plan.specs.Limits.{noRow}
 use Rattle.plan.specs.Plan.{isGlobal, declares}
-use Rattle.plan.proofs.Facts.{row-there}
 use Rattle.state.specs.declared.Task.{Task}
 use Rattle.state.specs.State.{mostHeld, isIdle, isReady, isWaiting, heldAt, holds, lastHeld, inSection}
 use Rattle.state.specs.Update.{readied, started, waitingFor, taking, givingBack}
-use Rattle.state.specs.Facts.{HeldLegal, WaitLegal, TaskLegal}
+use Rattle.state.specs.Facts.{HeldLegal, TaskLegal}
 use Rattle.state.proofs.Tasks.{section-count, section-global, global-section}
 use Rattle.state.proofs.TaskUpdate.{readied-held, readied-waiting, started-held, started-waiting, waitingFor-held, waitingFor-section, taking-held, taking-held-other, taking-waiting, givingBack-held, givingBack-held-last, givingBack-waiting, givingBack-count}
 

@@ -1,7 +1,7 @@
 -- A task readied, started, made to wait, taking or giving back a resource, or idle: what it is and holds afterwards.
-use mathlib.Core.Path.{_≡_, refl, sym, ap, _∙_}
+use mathlib.Core.Path.{_≡_, refl, _∙_}
 use mathlib.Core.Logic.{_≢_}
-use mathlib.Core.Bool.{Bool, true, false, _&&_}
+use mathlib.Core.Bool.{true, false}
 use Prim.Native.Nat.{ℕ, _+_, _-_, _<_, _≤_}
 use native.Mathlib.Omega.{arith}
 use lib.ListN.{length, length-set, getD-replicate}
@@ -11,7 +11,7 @@ use Rattle.plan.specs.declared.Plan.{Plan}
 use Rattle.plan.specs.Limits.{noRow}
 use Rattle.plan.specs.Plan.{isGlobal}
 use Rattle.state.specs.declared.Task.{Task}
-use Rattle.state.specs.State.{mostHeld, idleTask, isIdle, isReady, isStarted, isWaiting, isActive, heldAt, lastHeld, inSection}
+use Rattle.state.specs.State.{mostHeld, idleTask, isStarted, isWaiting, isActive, heldAt, lastHeld, inSection}
 use Rattle.state.specs.Update.{readied, started, waitingFor, taking, givingBack}
 
 -- readied: neither started nor waiting; the holdings stay

@@ -1,21 +1,20 @@
 -- "State": what follows for the tasks of a legal state, each by itself and two together.
-use mathlib.Core.Path.{_≡_, refl, sym, ap, _∙_}
+use mathlib.Core.Path.{_≡_, refl, sym}
 use mathlib.Core.Logic.{_⊎_, inl, inr, ⊎-elim}
-use mathlib.Core.Bool.{Bool, true, false, _||_}
-use Prim.Native.Nat.{ℕ, zero, suc, _+_, _-_, _≤_, _<_}
+use mathlib.Core.Bool.{true, false, _||_}
+use Prim.Native.Nat.{ℕ, zero, suc, _-_, _≤_, _<_}
 use native.Mathlib.Omega.{arith}
 use lib.Dec.{eqb}
-use borrow.Author.Tests.{leb-true, le-leb, eqb-true, eqb-false}
-use Rattle.below.specs.Below.{any}
+use borrow.Author.Tests.{leb-true, le-leb, eqb-true}
 use Rattle.below.proofs.Search.{any-true}
-use Rattle.below.proofs.Tests.{decided, clash, fails, conjuncts, and-of, or-cases, or-left, or-right}
+use Rattle.below.proofs.Tests.{fails, conjuncts, or-cases, or-right}
 use Rattle.plan.specs.declared.Plan.{Plan}
 use Rattle.plan.specs.Plan.{owner, isGlobal, declares, takenBefore}
 use Rattle.plan.proofs.Order.{before-total}
 use Rattle.state.specs.declared.Task.{Task}
 use Rattle.state.specs.State.{isIdle, isReady, isStarted, isWaiting, isActive, heldAt, holds, lastHeld, inSection}
 use Rattle.state.specs.Facts.{HeldLegal, TaskLegal}
-use Rattle.state.proofs.Parts.{Engaged, Ahead, Tasks}
+use Rattle.state.proofs.Parts.{Engaged, Tasks}
 
 -- a condition is one of four
 condition-cases : (t : Task) → t .condition ≤ 3 → ((isIdle t || isReady t) ≡ true) ⊎ (isActive t ≡ true)

@@ -1,23 +1,21 @@
 -- "Events", step (c): the chosen subsystem is charged and its task runs. Inside a section budget left and section left fall together.
-use mathlib.Core.Path.{_≡_, refl, sym, ap, _∙_}
-use mathlib.Core.Logic.{_≢_, _⊎_, inl, inr, ⊎-elim}
-use mathlib.Core.Bool.{Bool, true, false, _||_}
+use mathlib.Core.Path.{_≡_, refl, ap, _∙_}
+use mathlib.Core.Logic.{_≢_, _⊎_, inl, inr}
+use mathlib.Core.Bool.{true, false}
 use Prim.Native.Nat.{ℕ, _+_, _-_, _≤_, _<_}
 use native.Mathlib.Omega.{arith}
 use lib.ListN.{length}
 use borrow.Author.Tests.{lt-ltb, le-ltb}
-use Rattle.below.proofs.Tests.{decided, clash, or-left}
+use Rattle.below.proofs.Tests.{decided}
 use Rattle.plan.specs.declared.Plan.{Plan}
 use Rattle.plan.specs.Limits.{mostSubsystems, mostTasks, noRow}
 use Rattle.plan.specs.Plan.{owner, lengthOf}
 use Rattle.plan.specs.Facts.{Accepted}
-use Rattle.state.specs.declared.BudgetLeft.{BudgetLeft}
 use Rattle.state.specs.declared.Task.{Task}
 use Rattle.state.specs.declared.State.{State}
 use Rattle.state.specs.State.{mostHeld, taskAt, leftOf, refillOf, usedOf, isWaiting, lastHeld, inSection}
-use Rattle.state.specs.Update.{withTask, withLeft, withUsed, started}
+use Rattle.state.specs.Update.{withTask, withUsed, started}
 use Rattle.state.specs.Sized.{Sized}
-use Rattle.state.specs.Facts.{Legal}
 use Rattle.state.proofs.Update.{taskAt-withTask, taskAt-withTask-other, leftOf-withTask, refillOf-withTask, usedOf-withTask, sized-withTask, leftOf-withLeft, leftOf-withLeft-other, taskAt-withLeft, refillOf-withLeft, usedOf-withLeft, sized-withLeft, usedOf-withUsed, usedOf-withUsed-other, sized-withUsed}
 use Rattle.state.proofs.TaskUpdate.{started-section, started-last, started-sized}
 use Rattle.state.proofs.TaskKept.{started-legal}
@@ -25,7 +23,7 @@ use Rattle.state.proofs.Facts.{NoSection}
 use Rattle.state.proofs.Parts.{Tasks, legal-tasks, legal-counts}
 use Rattle.state.proofs.Counts.{SameCounts, SameSection, counts-out}
 use Rattle.state.proofs.Replaced.{Fits}
-use Rattle.state.proofs.Changed.{Changed, OthersOutside, all-outside, inside-legal, outside-legal, counts-legal}
+use Rattle.state.proofs.Changed.{Changed, all-outside, inside-legal, outside-legal, counts-legal}
 use Rattle.choice.specs.Choice.{runs}
 use Rattle.choice.proofs.Taken.{Takes}
 use Rattle.choice.proofs.Running.{runs-waiting, runs-going, runs-nobody}

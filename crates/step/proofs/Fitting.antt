@@ -1,13 +1,12 @@
 -- Which task may take the place of another: an active one at the row taken in its subsystem, and one that holds less at any row.
-use mathlib.Core.Path.{_≡_, refl, sym, ap, _∙_}
-use mathlib.Core.Logic.{_⊎_, inl, inr, ⊎-elim}
-use mathlib.Core.Bool.{Bool, true, false, _||_}
-use Prim.Native.Nat.{ℕ, _-_, _≤_, _<_}
+use mathlib.Core.Path.{_≡_, sym, _∙_}
+use mathlib.Core.Logic.{_⊎_, ⊎-elim}
+use mathlib.Core.Bool.{true, false}
+use Prim.Native.Nat.{ℕ, _≤_, _<_}
 use native.Mathlib.Omega.{arith}
 use Rattle.below.proofs.Tests.{clash, fails, or-cases, or-left, or-right}
 use Rattle.plan.specs.declared.Plan.{Plan}
-use Rattle.plan.specs.Plan.{owner, isGlobal, takenBefore}
-use Rattle.plan.specs.Ceiling.{localCeiling, globalCeiling}
+use Rattle.plan.specs.Plan.{owner}
 use Rattle.state.specs.declared.Task.{Task}
 use Rattle.state.specs.declared.State.{State}
 use Rattle.state.specs.State.{idleTask, taskAt, isWaiting, isActive, heldAt, lastHeld, inSection}
@@ -18,7 +17,7 @@ use Rattle.state.proofs.Parts.{Engaged, Ahead, Under, Tasks}
 use Rattle.state.proofs.Counts.{SameSection}
 use Rattle.state.proofs.Replaced.{Fits}
 use Rattle.state.proofs.Changed.{OthersOutside}
-use Rattle.choice.proofs.Taken.{Unbarred, Takes, takes-engaged}
+use Rattle.choice.proofs.Taken.{Takes, takes-engaged}
 
 -- how a new section of k stands to those of other subsystems
 abbrev pub Crosses : Plan → (ℕ → Task) → ℕ → Task → Type 0

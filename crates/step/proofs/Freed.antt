@@ -1,24 +1,22 @@
 -- "Events", release, unlock, end and step (a): a task that holds no more than before takes its own place.
 use mathlib.Core.Path.{_≡_, refl, sym, ap, _∙_}
-use mathlib.Core.Logic.{_⊎_, inl, inr, ⊎-elim}
-use mathlib.Core.Bool.{Bool, true, false, _||_}
-use Prim.Native.Nat.{ℕ, _+_, _-_, _≤_, _<_}
+use mathlib.Core.Bool.{Bool, true, false}
+use Prim.Native.Nat.{ℕ, _≤_, _<_}
 use native.Mathlib.Omega.{arith}
 use lib.ListN.{length}
-use borrow.Author.Tests.{le-leb}
-use Rattle.below.proofs.Tests.{decided, clash, fails, or-left}
+use Rattle.below.proofs.Tests.{clash, fails, or-left}
 use Rattle.plan.specs.declared.Plan.{Plan}
 use Rattle.plan.specs.Plan.{owner, isGlobal}
 use Rattle.plan.specs.Facts.{Accepted}
 use Rattle.state.specs.declared.Task.{Task}
 use Rattle.state.specs.declared.State.{State}
-use Rattle.state.specs.State.{mostHeld, idleTask, taskAt, isIdle, isReady, isWaiting, lastHeld, inSection}
+use Rattle.state.specs.State.{mostHeld, idleTask, taskAt, isIdle, isWaiting, lastHeld, inSection}
 use Rattle.state.specs.Update.{withTask, withUsed, readied, givingBack}
 use Rattle.state.specs.Facts.{TaskLegal}
 use Rattle.state.proofs.TaskUpdate.{readied-section, readied-last, readied-sized, givingBack-sized, idle-section, idle-sized}
 use Rattle.state.proofs.TaskKept.{readied-legal, givingBack-legal, givingBack-section}
 use Rattle.state.proofs.Tasks.{holder-section, section-count}
-use Rattle.state.proofs.Parts.{Tasks, legal-tasks}
+use Rattle.state.proofs.Parts.{legal-tasks}
 use Rattle.state.proofs.Fresh.{idle-legal}
 use Rattle.state.proofs.Replaced.{Fits}
 use Rattle.step.specs.Events.{released, unlocked, endedTask}

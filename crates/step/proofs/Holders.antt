@@ -1,33 +1,32 @@
 -- "State" and "Events": no resource has two holders, and a lock or step (b) never finds its resource held.
-use mathlib.Core.Path.{_≡_, refl, sym, ap, _∙_}
+use mathlib.Core.Path.{_≡_, refl, sym, _∙_}
 use mathlib.Core.Logic.{_≢_, _⊎_, inl, inr, ⊎-elim}
-use mathlib.Core.Bool.{Bool, true, false, _||_}
-use Prim.Native.Nat.{ℕ, _+_, _-_, _≤_, _<_}
+use mathlib.Core.Bool.{Bool, true, false}
+use Prim.Native.Nat.{ℕ, _<_}
 use native.Mathlib.Omega.{arith}
 use lib.Dec.{eqb}
 use borrow.Author.Tests.{eqb-true, eqb-false}
 use Rattle.below.proofs.Tests.{decided, clash, fails, or-right}
 use Rattle.plan.specs.declared.Plan.{Plan}
-use Rattle.plan.specs.Limits.{noRow}
 use Rattle.plan.specs.Plan.{owner, isGlobal, declares, level, takenBefore}
-use Rattle.plan.specs.Ceiling.{localCeiling, globalCeiling}
+use Rattle.plan.specs.Ceiling.{globalCeiling}
 use Rattle.plan.specs.Facts.{Accepted}
 use Rattle.plan.proofs.Order.{before-total}
 use Rattle.plan.proofs.Ceiling.{globalCeiling-most, localCeiling-first}
 use Rattle.state.specs.declared.Task.{Task}
 use Rattle.state.specs.declared.State.{State}
-use Rattle.state.specs.State.{taskAt, isWaiting, isActive, heldAt, holds, lastHeld, inSection}
+use Rattle.state.specs.State.{taskAt, isWaiting, isActive, holds, lastHeld, inSection}
 use Rattle.state.specs.Sized.{Sized}
 use Rattle.state.specs.Facts.{Legal}
 use Rattle.state.proofs.Tasks.{HeldPlace, holds-place, holder-active, global-section, engaged-one}
-use Rattle.state.proofs.Parts.{Ahead, Under, Tasks, legal-tasks}
-use Rattle.choice.specs.Choice.{chosen, taken, runs, chosenTask, running}
-use Rattle.choice.proofs.Taken.{Unbarred, Takes}
-use Rattle.choice.proofs.Running.{running-takes, running-going}
+use Rattle.state.proofs.Parts.{Ahead, Under, legal-tasks}
+use Rattle.choice.specs.Choice.{chosen, runs}
+use Rattle.choice.proofs.Taken.{Takes}
+use Rattle.choice.proofs.Running.{running-takes}
 use Rattle.step.specs.Refusals.{lock, refusal}
 use Rattle.step.proofs.Kept.{Kept}
-use Rattle.step.proofs.Taking.{outside-free, outside-under}
-use Rattle.step.proofs.Refusals.{Lockable, lock-passed}
+use Rattle.step.proofs.Taking.{outside-under}
+use Rattle.step.proofs.Refusals.{lock-passed}
 
 -- what it says that task k holds r
 module _ (p : Plan) (s : State) (L : Legal p s) (k r : ℕ) (h : k < p .tasks) (w : HeldPlace (taskAt s k) r) where

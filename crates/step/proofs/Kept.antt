@@ -1,12 +1,11 @@
 -- A legal state with one task replaced stays legal: its section stays as it was, is opened, or is closed.
-use mathlib.Core.Path.{_≡_, refl, sym, ap, _∙_}
-use mathlib.Core.Logic.{_⊎_, inl, inr, ⊎-elim}
-use mathlib.Core.Bool.{Bool, true, false, _||_}
-use Prim.Native.Nat.{ℕ, _+_, _-_, _≤_, _<_}
+use mathlib.Core.Path.{_≡_, refl, ap, _∙_}
+use mathlib.Core.Bool.{true, false}
+use Prim.Native.Nat.{ℕ, _≤_, _<_}
 use native.Mathlib.Nat.{le-refl}
 use native.Mathlib.Omega.{arith}
 use lib.ListN.{length}
-use Rattle.below.proofs.Tests.{clash, or-right}
+use Rattle.below.proofs.Tests.{or-right}
 use Rattle.plan.specs.declared.Plan.{Plan}
 use Rattle.plan.specs.Limits.{mostSubsystems, mostTasks}
 use Rattle.plan.specs.Plan.{owner, lengthOf}
@@ -14,11 +13,11 @@ use Rattle.plan.specs.Facts.{Accepted}
 use Rattle.state.specs.declared.Task.{Task}
 use Rattle.state.specs.declared.State.{State}
 use Rattle.state.specs.State.{mostHeld, taskAt, leftOf, refillOf, usedOf, isWaiting, lastHeld, inSection}
-use Rattle.state.specs.Update.{withTask, withLeft, withUsed}
+use Rattle.state.specs.Update.{withTask, withUsed}
 use Rattle.state.specs.Sized.{Sized}
 use Rattle.state.specs.Facts.{Legal}
-use Rattle.state.proofs.Update.{taskAt-withTask, taskAt-withTask-other, leftOf-withTask, refillOf-withTask, usedOf-withTask, sized-withTask, usedOf-withUsed, usedOf-withUsed-other, taskAt-withUsed, leftOf-withUsed, refillOf-withUsed, sized-withUsed}
-use Rattle.state.proofs.Parts.{Tasks, legal-tasks}
+use Rattle.state.proofs.Update.{taskAt-withTask, taskAt-withTask-other, leftOf-withTask, refillOf-withTask, usedOf-withTask, sized-withTask, usedOf-withUsed, usedOf-withUsed-other, sized-withUsed}
+use Rattle.state.proofs.Parts.{legal-tasks}
 use Rattle.state.proofs.Counts.{SameCounts, SameSection}
 use Rattle.state.proofs.Replaced.{Fits}
 use Rattle.state.proofs.Changed.{Changed, OthersOutside, engaged-others, all-outside, same-legal, inside-legal, outside-legal}

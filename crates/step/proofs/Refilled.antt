@@ -1,13 +1,9 @@
 -- "Events", step (d): every subsystem's ticks to refill fall by one, and at 0 budget and period are set full again. A legal state stays legal.
-use mathlib.Core.Path.{_≡_, refl, sym, ap, _∙_}
-use mathlib.Core.Logic.{_⊎_, inl, inr, ⊎-elim}
-use mathlib.Core.Bool.{Bool, true, false}
-use Prim.Native.Nat.{ℕ, _+_, _-_, _≤_, _<_}
+use mathlib.Core.Path.{_≡_, refl, _∙_}
+use mathlib.Core.Logic.{_⊎_, inl, inr}
+use Prim.Native.Nat.{ℕ, _-_, _≤_, _<_}
 use native.Mathlib.Omega.{arith}
-use lib.Dec.{leb}
-use lib.ListN.{length, getD}
-use borrow.Author.Tests.{leb-true, leb-false, le-leb, lt-leb}
-use Rattle.below.specs.Listed.{listed}
+use borrow.Author.Tests.{le-leb, lt-leb}
 use Rattle.below.proofs.Listed.{length-listed, getD-listed}
 use Rattle.plan.specs.declared.Plan.{Plan}
 use Rattle.plan.specs.Limits.{mostSubsystems}
@@ -17,7 +13,6 @@ use Rattle.plan.proofs.Facts.{row-there}
 use Rattle.state.specs.declared.State.{State}
 use Rattle.state.specs.State.{taskAt, leftOf, refillOf, usedOf}
 use Rattle.state.specs.Sized.{Sized}
-use Rattle.state.specs.Facts.{Legal}
 use Rattle.state.proofs.Parts.{CountsAt, NoCounts, legal-tasks, legal-counts, legal-absent, legal-of}
 use Rattle.state.proofs.Changed.{tasks-same}
 use Rattle.step.specs.Tick.{refilled}

@@ -1,29 +1,28 @@
 -- "Events", step (a): while the chosen task holds a global whose length is used up, it is ended. Each turn closes a section, so the turns are enough.
-use mathlib.Core.Path.{_≡_, refl, sym, ap, _∙_}
-use mathlib.Core.Logic.{_≢_, _⊎_, inl, inr, ⊎-elim}
+use mathlib.Core.Path.{_≡_, refl}
+use mathlib.Core.Logic.{_≢_}
 use mathlib.Core.Bool.{Bool, true, false, _&&_, cond}
-use Prim.Native.Nat.{ℕ, zero, suc, _+_, _-_, _*_, _≤_, _<_}
+use Prim.Native.Nat.{ℕ, zero, suc, _+_, _≤_, _<_}
 use native.Mathlib.Omega.{arith}
 use lib.Dec.{eqb}
 use borrow.Author.Tests.{eqb-true, eqb-false, eq-eqb}
 use Rattle.below.specs.Below.{any, sum}
 use Rattle.below.proofs.Search.{any-true, any-of, any-absent}
 use Rattle.below.proofs.Amounts.{sum-at, sum-falls, sum-bounded}
-use Rattle.below.proofs.Tests.{decided, clash, fails, conjuncts, and-of, and-right, or-right}
+use Rattle.below.proofs.Tests.{clash, fails, conjuncts, and-of, or-right}
 use Rattle.plan.specs.declared.Plan.{Plan}
-use Rattle.plan.specs.Limits.{mostTasks, noRow}
+use Rattle.plan.specs.Limits.{noRow}
 use Rattle.plan.specs.Plan.{owner}
 use Rattle.plan.specs.Facts.{Accepted}
 use Rattle.state.specs.declared.State.{State}
-use Rattle.state.specs.State.{idleTask, taskAt, isWaiting, inSection, sectionLeft}
+use Rattle.state.specs.State.{idleTask, taskAt, isWaiting, inSection}
 use Rattle.state.specs.Update.{withTask, withUsed}
 use Rattle.state.specs.Sized.{Sized}
-use Rattle.state.specs.Facts.{Legal}
 use Rattle.state.proofs.Update.{taskAt-past, taskAt-withTask, taskAt-withTask-other, taskAt-withUsed}
 use Rattle.state.proofs.TaskUpdate.{idle-section}
 use Rattle.state.proofs.Parts.{legal-tasks}
 use Rattle.state.proofs.Changed.{engaged-others}
-use Rattle.choice.specs.Choice.{chosen, taken, chosenTask}
+use Rattle.choice.specs.Choice.{chosen, chosenTask}
 use Rattle.choice.proofs.Taken.{Takes, taken-takes}
 use Rattle.step.specs.declared.Shut.{Shut}
 use Rattle.step.specs.Events.{endedTask}

@@ -1,8 +1,7 @@
 -- "Events": every event leaves a legal state legal, refusals too.
-use mathlib.Core.Path.{_≡_, refl, sym, ap, _∙_}
+use mathlib.Core.Path.{_≡_, refl}
 use mathlib.Core.Bool.{Bool, true, false}
 use Prim.Native.Nat.{ℕ, _≤_, _<_}
-use native.Mathlib.Omega.{arith}
 use lib.Dec.{eqb}
 use borrow.Author.Tests.{eqb-true, leb-true}
 use Rattle.below.proofs.Tests.{clash}
@@ -25,7 +24,7 @@ use Rattle.step.specs.Step.{done, stepped}
 use Rattle.step.proofs.Kept.{Kept}
 use Rattle.step.proofs.Taking.{taken-kept, waiting-kept}
 use Rattle.step.proofs.Freed.{released-kept, unlocked-kept, ended-kept}
-use Rattle.step.proofs.Refusals.{Lockable, lock-passed, Unlockable, unlock-passed, Endable, end-passed, release-passed}
+use Rattle.step.proofs.Refusals.{Lockable, lock-passed, unlock-passed, end-passed, release-passed}
 use Rattle.step.proofs.Ticked.{ticked-kept}
 
 -- an outcome leaves a legal state behind

@@ -1,23 +1,22 @@
 -- "Events", lock and step (b): the task taken in the chosen subsystem takes a resource or is made to wait.
-use mathlib.Core.Path.{_≡_, refl, sym, ap, _∙_}
-use mathlib.Core.Logic.{_⊎_, inl, inr, ⊎-elim}
-use mathlib.Core.Bool.{Bool, true, false, _||_}
-use Prim.Native.Nat.{ℕ, _+_, _-_, _≤_, _<_}
+use mathlib.Core.Path.{_≡_, sym, _∙_}
+use mathlib.Core.Logic.{_⊎_, inl, inr}
+use mathlib.Core.Bool.{true, false}
+use Prim.Native.Nat.{ℕ, _≤_, _<_}
 use native.Mathlib.Omega.{arith}
 use lib.ListN.{length}
 use Rattle.below.proofs.Tests.{decided, clash, fails, or-right}
 use Rattle.plan.specs.declared.Plan.{Plan}
-use Rattle.plan.specs.Limits.{mostTasks}
 use Rattle.plan.specs.Plan.{owner, isGlobal, lengthOf, declares}
 use Rattle.plan.specs.Facts.{Accepted}
 use Rattle.state.specs.declared.Task.{Task}
 use Rattle.state.specs.declared.State.{State}
-use Rattle.state.specs.State.{mostHeld, taskAt, leftOf, isWaiting, isActive, heldAt, holds, lastHeld, inSection}
+use Rattle.state.specs.State.{mostHeld, taskAt, leftOf, isWaiting, holds, inSection}
 use Rattle.state.specs.Update.{withTask, waitingFor, taking}
-use Rattle.state.specs.Facts.{TaskLegal, Legal}
-use Rattle.state.proofs.TaskUpdate.{taking-active, taking-last, taking-section, taking-sized, waitingFor-active, waitingFor-section, waitingFor-last, waitingFor-sized}
+use Rattle.state.specs.Facts.{TaskLegal}
+use Rattle.state.proofs.TaskUpdate.{taking-last, taking-section, taking-sized, waitingFor-section, waitingFor-last, waitingFor-sized}
 use Rattle.state.proofs.TaskKept.{taking-legal, waitingFor-legal}
-use Rattle.state.proofs.Tasks.{HeldPlace, holds-place, global-section}
+use Rattle.state.proofs.Tasks.{holds-place, global-section}
 use Rattle.state.proofs.Parts.{Under, Tasks, legal-tasks}
 use Rattle.state.proofs.Counts.{SameSection}
 use Rattle.state.proofs.Replaced.{Fits}
@@ -25,7 +24,7 @@ use Rattle.choice.specs.Choice.{chosen}
 use Rattle.choice.proofs.Taken.{Takes, takes-engaged}
 use Rattle.choice.proofs.Choice.{Chosen, by-level, by-holding, nobody, chosen-cases}
 use Rattle.step.specs.Events.{withTaken}
-use Rattle.step.proofs.Fitting.{Crosses, same-crosses, takes-fits, takes-others}
+use Rattle.step.proofs.Fitting.{same-crosses, takes-fits, takes-others}
 use Rattle.step.proofs.Kept.{Kept, task-kept, opened-kept}
 
 -- who holds no global holds none

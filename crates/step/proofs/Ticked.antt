@@ -1,36 +1,33 @@
 -- "Events", tick: (a) to (d) together. What is charged has budget left, and a legal state stays legal.
-use mathlib.Core.Path.{_≡_, refl, sym, ap, _∙_}
-use mathlib.Core.Logic.{_≢_, _⊎_, inl, inr, ⊎-elim}
+use mathlib.Core.Path.{_≡_, refl, ap, _∙_}
+use mathlib.Core.Logic.{_≢_, ⊎-elim}
 use mathlib.Core.Bool.{Bool, true, false}
-use Prim.Native.Nat.{ℕ, _+_, _-_, _≤_, _<_}
+use Prim.Native.Nat.{ℕ, _<_}
 use native.Mathlib.Omega.{arith}
 use lib.Dec.{eqb}
-use borrow.Author.Tests.{eqb-true, eqb-false}
-use Rattle.below.proofs.Tests.{decided, clash, fails, or-right}
+use borrow.Author.Tests.{eqb-false}
+use Rattle.below.proofs.Tests.{clash, fails, or-right}
 use Rattle.plan.specs.declared.Plan.{Plan}
 use Rattle.plan.specs.Limits.{noRow}
 use Rattle.plan.specs.Plan.{owner}
 use Rattle.plan.specs.Facts.{Accepted}
 use Rattle.state.specs.declared.State.{State}
-use Rattle.state.specs.State.{taskAt, leftOf, isWaiting, isActive, holds, inSection, sectionLeft}
+use Rattle.state.specs.State.{taskAt, leftOf, isWaiting, isActive, holds}
 use Rattle.state.specs.Sized.{Sized}
 use Rattle.state.specs.Facts.{Legal}
-use Rattle.state.proofs.Update.{taskAt-past}
-use Rattle.state.proofs.TaskUpdate.{idle-waiting}
-use Rattle.state.proofs.Facts.{NoSection}
 use Rattle.state.proofs.Tasks.{section-active}
 use Rattle.state.proofs.Parts.{legal-tasks, legal-counts}
 use Rattle.choice.specs.Choice.{chosen, taken, runs, chosenTask}
-use Rattle.choice.proofs.Taken.{Takes, taken-cases, taken-takes, taken-engaged}
+use Rattle.choice.proofs.Taken.{Takes, taken-cases, taken-engaged}
 use Rattle.choice.proofs.Choice.{Chosen, by-level, by-holding, nobody, chosen-cases, chosen-there}
 use Rattle.step.specs.declared.Shut.{Shut}
 use Rattle.step.specs.declared.Outcome.{Outcome}
-use Rattle.step.specs.Tick.{isSpent, shutSpent, givenWaited, charged, ran, refilled, tickIn, tickIdle, tickAfter, ticked}
+use Rattle.step.specs.Tick.{isSpent, shutSpent, givenWaited, charged, ran, tickIn, tickIdle, tickAfter, ticked}
 use Rattle.step.proofs.Kept.{Kept}
 use Rattle.step.proofs.Charged.{nobody-run-kept, task-run-kept}
 use Rattle.step.proofs.Refilled.{refilled-kept}
 use Rattle.step.proofs.Spent.{Unspent, shut-unspent}
-use Rattle.step.proofs.Waited.{Unused, unspent-unused, Given, given-after, given-nobody, waiting-takes, waits-for-free}
+use Rattle.step.proofs.Waited.{unspent-unused, given-after, given-nobody, waiting-takes, waits-for-free}
 
 -- what (b) to (d) do to a state with nothing used up
 module _ (p : Plan) (s : State) (A : Accepted p) (U : Unspent p s) where

@@ -1,29 +1,28 @@
 -- "Events", step (b), in a state where nothing is used up: a waiting task whose length is at most the budget left takes its resource, which nobody holds.
-use mathlib.Core.Path.{_≡_, refl, sym, ap, _∙_}
-use mathlib.Core.Logic.{_≢_, _⊎_, inl, inr, ⊎-elim}
+use mathlib.Core.Path.{_≡_, refl, ap, _∙_}
+use mathlib.Core.Logic.{inl}
 use mathlib.Core.Bool.{Bool, true, false, _&&_}
-use Prim.Native.Nat.{ℕ, _+_, _-_, _≤_, _<_}
+use Prim.Native.Nat.{ℕ, _-_, _<_}
 use native.Mathlib.Omega.{arith}
 use lib.Dec.{eqb}
-use lib.ListN.{length}
 use borrow.Author.Tests.{leb-true, eqb-true, eqb-false, eq-eqb}
-use Rattle.below.proofs.Tests.{decided, clash, fails, conjuncts, and-of, or-left}
+use Rattle.below.proofs.Tests.{clash, conjuncts, and-of}
 use Rattle.plan.specs.declared.Plan.{Plan}
 use Rattle.plan.specs.Limits.{mostTasks, noRow}
-use Rattle.plan.specs.Plan.{owner, isGlobal, lengthOf, takenBefore}
+use Rattle.plan.specs.Plan.{owner, lengthOf, takenBefore}
 use Rattle.plan.specs.Facts.{Accepted}
 use Rattle.plan.proofs.Order.{before-irrefl}
 use Rattle.state.specs.declared.Task.{Task}
 use Rattle.state.specs.declared.State.{State}
-use Rattle.state.specs.State.{mostHeld, idleTask, taskAt, leftOf, usedOf, isWaiting, isActive, holds, lastHeld, inSection, sectionLeft}
+use Rattle.state.specs.State.{taskAt, usedOf, isWaiting, isActive, holds, lastHeld, inSection, sectionLeft}
 use Rattle.state.specs.Update.{withTask, taking}
 use Rattle.state.specs.Sized.{Sized}
-use Rattle.state.specs.Facts.{WaitLegal, Legal}
+use Rattle.state.specs.Facts.{WaitLegal}
 use Rattle.state.proofs.Update.{taskAt-past, taskAt-withTask, taskAt-withTask-other, usedOf-withTask}
 use Rattle.state.proofs.TaskUpdate.{idle-waiting, taking-active, taking-last}
-use Rattle.state.proofs.Parts.{Tasks, legal-tasks}
+use Rattle.state.proofs.Parts.{legal-tasks}
 use Rattle.state.proofs.Changed.{OthersOutside, all-outside}
-use Rattle.choice.specs.Choice.{chosen, taken, chosenTask}
+use Rattle.choice.specs.Choice.{chosen, chosenTask}
 use Rattle.choice.proofs.Taken.{Takes, taken-takes}
 use Rattle.step.specs.Events.{lengthFitsBudget, withTaken}
 use Rattle.step.specs.Tick.{isSpent, givenWaited}
@@ -31,7 +30,6 @@ use Rattle.step.proofs.Fitting.{takes-others}
 use Rattle.step.proofs.Kept.{Kept}
 use Rattle.step.proofs.Taking.{outside-free, taken-kept}
 use Rattle.step.proofs.Holders.{finds-free}
-use Rattle.step.proofs.Spent.{Unspent}
 
 -- the section of task k, if it is inside one, is not used up
 abbrev pub Unused : Plan → State → ℕ → Type 0
