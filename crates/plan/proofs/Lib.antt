@@ -1,3 +1,4 @@
 pub mod Order
 pub mod Ceiling
 pub mod Facts
+pub mod Blocking

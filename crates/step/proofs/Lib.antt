@@ -10,3 +10,4 @@ pub mod Spent
 pub mod Waited
 pub mod Ticked
 pub mod Stepped
+pub mod Strict
