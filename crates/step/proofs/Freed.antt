@@ -1,6 +1,6 @@
 -- "Events", release, unlock, end and step (a): a task that holds no more than before takes its own place.
-use mathlib.Core.Path.{_≡_, refl, sym, ap, _∙_}
-use mathlib.Core.Bool.{Bool, true, false}
+use mathlib.Core.Path.{_≡_, sym, _∙_}
+use mathlib.Core.Bool.{true, false}
 use Prim.Native.Nat.{ℕ, _≤_, _<_}
 use native.Mathlib.Omega.{arith}
 use lib.ListN.{length}
@@ -19,7 +19,7 @@ use Rattle.state.proofs.Tasks.{holder-section, section-count}
 use Rattle.state.proofs.Parts.{legal-tasks}
 use Rattle.state.proofs.Fresh.{idle-legal}
 use Rattle.state.proofs.Replaced.{Fits}
-use Rattle.step.specs.Events.{released, unlocked, endedTask}
+use Rattle.step.specs.Events.{released, endedTask}
 use Rattle.step.proofs.Fitting.{Less, less-fits, readied-less, idle-less, givingBack-less}
 use Rattle.step.proofs.Kept.{Kept, task-kept, closed-kept}
 
@@ -57,22 +57,29 @@ module _ (p : Plan) (s : State) (A : Accepted p) (S : Kept p s) (k : ℕ) (h : k
   shut-kept i = closed-kept p s A S k h idleTask idle-sized (fits idleTask (idle-legal p k) (idle-less p (taskAt s k))) i (idle-section p)
 
   -- the resource taken last is given back
-  pub unlocked-kept : (r : ℕ) → isWaiting (taskAt s k) ≡ false → 1 ≤ taskAt s k .count → lastHeld (taskAt s k) ≡ r → Kept p (unlocked p s k r)
-  unfolding unlocked
-  unlocked-kept r w some e = go (isGlobal p r) refl
-    where
-      t : Task
-      t = givingBack (taskAt s k)
+  module _ (w : isWaiting (taskAt s k) ≡ false) (some : 1 ≤ taskAt s k .count) where
+    t : Task
+    t = givingBack (taskAt s k)
 
-      out : inSection p t ≡ false
-      out = givingBack-section p k (taskAt s k) before size some w
+    out : inSection p t ≡ false
+    unfolding t
+    out = givingBack-section p k (taskAt s k) before size some w
 
-      F : Fits p (taskAt s) k t
-      F = fits t (givingBack-legal p k (taskAt s k) before size some w) (givingBack-less p (taskAt s k) out)
+    F : Fits p (taskAt s) k t
+    unfolding t
+    F = fits t (givingBack-legal p k (taskAt s k) before size some w) (givingBack-less p (taskAt s k) out)
 
-      section : inSection p (taskAt s k) ≡ isGlobal p r
-      section = holder-section p (taskAt s k) some ∙ ap (isGlobal p) e
+    resized : length (t .held) ≡ mostHeld
+    unfolding t
+    resized = givingBack-sized (taskAt s k) size
 
-      go : (g : Bool) → isGlobal p r ≡ g → Kept p (elim g [ true ↦ withUsed (withTask s k t) (owner p k) 0 | false ↦ withTask s k t ])
-      go true g = closed-kept p s A S k h t (givingBack-sized (taskAt s k) size) F (section ∙ g) out
-      go false g = task-kept p s A S k h t (givingBack-sized (taskAt s k) size) F (record { inside = out ∙ sym (section ∙ g); last = λ i. absurd (clash i (section ∙ g)) })
+    section : isGlobal p (lastHeld (taskAt s k)) ≡ inSection p (taskAt s k)
+    section = sym (holder-section p (taskAt s k) some)
+
+    pub unlocked-global-kept : isGlobal p (lastHeld (taskAt s k)) ≡ true → Kept p (withUsed (withTask s k (givingBack (taskAt s k))) (owner p k) 0)
+    unfolding t
+    unlocked-global-kept g = closed-kept p s A S k h t resized F (sym section ∙ g) out
+
+    pub unlocked-local-kept : isGlobal p (lastHeld (taskAt s k)) ≡ false → Kept p (withTask s k (givingBack (taskAt s k)))
+    unfolding t
+    unlocked-local-kept g = task-kept p s A S k h t resized F (record { inside = out ∙ sym (sym section ∙ g); last = λ i. absurd (clash i (sym section ∙ g)) })

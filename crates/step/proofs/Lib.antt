@@ -9,5 +9,6 @@ pub mod Holders
 pub mod Spent
 pub mod Waited
 pub mod Ticked
+pub mod Cases
 pub mod Stepped
 pub mod Strict
