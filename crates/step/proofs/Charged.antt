@@ -61,7 +61,7 @@ module _ (s : State) (c : ℕ) where
   unfolding charged
   charged-left Z h = ap (λ q. q .0) (leftOf-withLeft s c _ Z h)
 
-  charged-refill : (d : ℕ) → refillOf (charged s c) d ≡ refillOf s d
+  pub charged-refill : (d : ℕ) → refillOf (charged s c) d ≡ refillOf s d
   unfolding charged
   charged-refill d = refillOf-withLeft s c _ d
 
@@ -69,7 +69,7 @@ module _ (s : State) (c : ℕ) where
   unfolding charged
   charged-used d = usedOf-withLeft s c _ d
 
-  charged-elsewhere : (d : ℕ) → d ≢ c → SameCounts s (charged s c) d
+  pub charged-elsewhere : (d : ℕ) → d ≢ c → SameCounts s (charged s c) d
   unfolding charged
   charged-elsewhere d n = record { left = ap (λ q. q .0) (leftOf-withLeft-other s c _ d n); refill = charged-refill d; used = charged-used d }
 

@@ -12,3 +12,5 @@ pub mod Ticked
 pub mod Cases
 pub mod Stepped
 pub mod Strict
+pub mod Still
+pub mod Spends

@@ -46,6 +46,14 @@ module _ (p : Plan) (s : State) (A : Accepted p) (U : Unspent p s) where
           omega (arith, more (H .inside), C .left-enough k (H .there) (H .owned) (H .inside))
       go (nobody N) = absurd (n (N .none))
 
+  -- (b)
+  pub given-kept : Kept p (givenWaited p s (taken p s (chosen p s)))
+  unfolding chosenTask
+  given-kept =
+      ⊎-elim (λ e. rw (e .0, given-nobody p s (U .kept .sized)) (U .kept))
+      (λ K. given-after p s A (U .kept) (taken p s (chosen p s)) K (unspent-unused p s (U .unspent)) .kept)
+      (taken-cases p s (chosen p s))
+
   -- (b) and (c)
   run-kept : chosen p s ≢ noRow → Kept p (ran p (charged (givenWaited p s (chosenTask p s)) (chosen p s)) (runs (givenWaited p s (chosenTask p s)) (chosenTask p s)))
   unfolding chosenTask
