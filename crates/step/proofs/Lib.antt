@@ -6,6 +6,7 @@ pub mod Charged
 pub mod Refilled
 pub mod Refusals
 pub mod Holders
+pub mod Turns
 pub mod Spent
 pub mod Waited
 pub mod Ticked
@@ -14,3 +15,5 @@ pub mod Stepped
 pub mod Strict
 pub mod Still
 pub mod Spends
+pub mod Lowers
+pub mod HeldBack

@@ -103,7 +103,7 @@ pub record Unspent (p : Plan) (s : State) : Type 0 where
   pub unspent : isSpent p s ≡ false
 
 module _ (p : Plan) (A : Accepted p) where
-  spent-inside : (s : State) → isSpent p s ≡ true → inSection p (taskAt s (chosenTask p s)) ≡ true
+  pub spent-inside : (s : State) → isSpent p s ≡ true → inSection p (taskAt s (chosenTask p s)) ≡ true
   unfolding isSpent
   spent-inside s e = search conjuncts
 

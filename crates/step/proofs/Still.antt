@@ -15,6 +15,7 @@ use Rattle.step.specs.Refusals.{tick}
 use Rattle.step.specs.Events.{released, lengthFitsBudget, withTaken, endedTask}
 use Rattle.step.specs.Tick.{isSpent, shutOne, shutTurns, shutSpent, givenWaited, ran}
 use Rattle.step.specs.Step.{stepped}
+use Rattle.step.proofs.Turns.{shut-case}
 use Rattle.step.proofs.Cases.{stepped-cases}
 
 -- budget left and ticks to refill are what they were
@@ -37,29 +38,9 @@ unfolding withTask withUsed leftOf refillOf
 still-used s k t c n = record { left = λ d. refl; refill = λ d. refl }
 
 -- (a)
-
-shut-one-still : (p : Plan) (x : Shut) (k : ℕ) → Still (x .state) (shutOne p x k .state)
-unfolding shutOne endedTask
-shut-one-still p x k = still-used (x .state) k _ (owner p k) 0
-
-shut-turns-still : (n : ℕ) (p : Plan) (x : Shut) → Still (x .state) (shutTurns n p x .state)
-unfolding shutTurns
-shut-turns-still zero p x = still-same (x .state)
-shut-turns-still (suc n) p x = go (isSpent p (x .state)) (shut-turns-still n p (shutOne p x (chosenTask p (x .state))))
-  where
-    StillTo : Shut → Type 0
-    StillTo y = Still (x .state) (y .state)
-
-    k : ℕ
-    k = chosenTask p (x .state)
-
-    go : (b : Bool) → Still (shutOne p x k .state) (shutTurns n p (shutOne p x k) .state) → StillTo (elim b [ true ↦ shutTurns n p (shutOne p x k) | false ↦ x ])
-    go true rest = still-then _ _ _ (shut-one-still p x k) rest
-    go false rest = still-same (x .state)
-
 pub shut-still : (p : Plan) (s : State) → Still s (shutSpent p s .state)
-unfolding shutSpent
-shut-still p s = shut-turns-still (p .subsystems) p (record { state = s; ended = 0 })
+unfolding endedTask
+shut-still p s = shut-case p (Still s) (λ u a e. still-then s u _ a (still-used u _ _ _ 0)) s (still-same s)
 
 -- (b)
 pub given-still : (p : Plan) (s : State) (k : ℕ) → Still s (givenWaited p s k)

@@ -22,7 +22,7 @@ use Rattle.state.proofs.Counts.{SameSection}
 use Rattle.state.proofs.Replaced.{Fits}
 use Rattle.choice.specs.Choice.{chosen}
 use Rattle.choice.proofs.Taken.{Takes, takes-engaged}
-use Rattle.choice.proofs.Choice.{Chosen, by-level, by-holding, nobody, chosen-cases}
+use Rattle.choice.proofs.Choice.{ByLevel, Chosen, by-level, by-holding, nobody, chosen-cases}
 use Rattle.step.specs.Events.{withTaken}
 use Rattle.step.proofs.Fitting.{same-crosses, takes-fits, takes-others}
 use Rattle.step.proofs.Kept.{Kept, task-kept, opened-kept}
@@ -36,16 +36,20 @@ module _ (p : Plan) (s : State) (A : Accepted p) (S : Kept p s) (k : ℕ) (K : T
   T : Tasks p (taskAt s)
   T = legal-tasks p s (S .legal)
 
-  -- the chosen subsystem, if its task is outside sections, lies below the ceiling of every held global
-  pub outside-under : (j : ℕ) → j < p .tasks → inSection p (taskAt s j) ≡ true → Under p k (taskAt s j)
-  outside-under j l i = go (chosen-cases p s A (S .legal))
+  -- a subsystem whose task is outside sections was chosen by its level
+  pub outside-by-level : ByLevel p s (chosen p s)
+  outside-by-level = go (chosen-cases p s A (S .legal))
     where
-      go : Chosen p s (chosen p s) → Under p k (taskAt s j)
-      go (by-level B) = rw (K .owned) (B .under j l i)
+      go : Chosen p s (chosen p s) → ByLevel p s (chosen p s)
+      go (by-level B) = B
       go (by-holding H) =
           let q = takes-engaged p (taskAt s) (chosen p s) k T K (H .holder) (H .there) (H .owned) (or-right (isWaiting (taskAt s (H .holder))) _ (H .inside)) in
           absurd (clash (H .inside) (rw q at out))
-      go (nobody N) = absurd (clash i (N .no-section j l))
+      go (nobody N) = absurd (omega (arith, K .owned, N .none, A .owner-there k (K .there), A .subsystems-most))
+
+  -- so it lies below the ceiling of every held global
+  pub outside-under : (j : ℕ) → j < p .tasks → inSection p (taskAt s j) ≡ true → Under p k (taskAt s j)
+  outside-under j l i = rw (K .owned) (outside-by-level .under j l i)
 
   size : length (taskAt s k .held) ≡ mostHeld
   size = S .sized .held k (omega (arith, K .there, A .tasks-most))
