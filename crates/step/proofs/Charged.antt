@@ -34,26 +34,26 @@ use Rattle.step.proofs.Kept.{Kept}
 -- what running a task does, by cases
 
 module _ (p : Plan) (s : State) (k : ℕ) where
-  ran-inside : k < p .tasks → inSection p (taskAt s k) ≡ true → ran p s k ≡ withUsed (withTask s k (started (taskAt s k))) (owner p k) (usedOf s (owner p k) + 1)
+  pub ran-inside : k < p .tasks → inSection p (taskAt s k) ≡ true → ran p s k ≡ withUsed (withTask s k (started (taskAt s k))) (owner p k) (usedOf s (owner p k) + 1)
   unfolding ran
   ran-inside h i = rw (lt-ltb k _ h, ran) (rw (started-section (taskAt s k) p ∙ i))
 
-  ran-outside : k < p .tasks → inSection p (taskAt s k) ≡ false → ran p s k ≡ withTask s k (started (taskAt s k))
+  pub ran-outside : k < p .tasks → inSection p (taskAt s k) ≡ false → ran p s k ≡ withTask s k (started (taskAt s k))
   unfolding ran
   ran-outside h i = rw (lt-ltb k _ h, ran) (rw (started-section (taskAt s k) p ∙ i))
 
-  ran-nobody : p .tasks ≤ k → ran p s k ≡ s
+  pub ran-nobody : p .tasks ≤ k → ran p s k ≡ s
   unfolding ran
   ran-nobody h = rw (le-ltb k _ h, ran)
 
 -- what a charge does
 
 module _ (s : State) (c : ℕ) where
-  charged-sized : Sized s → Sized (charged s c)
+  pub charged-sized : Sized s → Sized (charged s c)
   unfolding charged
   charged-sized Z = sized-withLeft s c _ Z
 
-  charged-tasks : (k : ℕ) → taskAt (charged s c) k ≡ taskAt s k
+  pub charged-tasks : (k : ℕ) → taskAt (charged s c) k ≡ taskAt s k
   unfolding charged
   charged-tasks k = taskAt-withLeft s c _ k
 
@@ -65,7 +65,7 @@ module _ (s : State) (c : ℕ) where
   unfolding charged
   charged-refill d = refillOf-withLeft s c _ d
 
-  charged-used : (d : ℕ) → usedOf (charged s c) d ≡ usedOf s d
+  pub charged-used : (d : ℕ) → usedOf (charged s c) d ≡ usedOf s d
   unfolding charged
   charged-used d = usedOf-withLeft s c _ d
 

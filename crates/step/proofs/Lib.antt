@@ -17,3 +17,4 @@ pub mod Still
 pub mod Spends
 pub mod Lowers
 pub mod HeldBack
+pub mod TickHeldBack

@@ -19,11 +19,11 @@ use Rattle.step.specs.Tick.{refilled}
 use Rattle.step.proofs.Kept.{Kept}
 
 module _ (p : Plan) (s : State) where
-  refilled-tasks : (k : ℕ) → taskAt (refilled p s) k ≡ taskAt s k
+  pub refilled-tasks : (k : ℕ) → taskAt (refilled p s) k ≡ taskAt s k
   unfolding refilled taskAt
   refilled-tasks k = refl
 
-  refilled-used : (c : ℕ) → usedOf (refilled p s) c ≡ usedOf s c
+  pub refilled-used : (c : ℕ) → usedOf (refilled p s) c ≡ usedOf s c
   unfolding refilled usedOf
   refilled-used c = refl
 
