@@ -10,6 +10,7 @@ use Rattle.below.specs.Listed.{listedOnto, listed}
 use Rattle.below.proofs.Search.{last-or-before}
 
 module _ {A : Type 0} (f : ℕ → A) where
+  -- as many more as numbers
   length-onto : (n : ℕ) (l : List A) → length (listedOnto n f l) ≡ n + length l
   unfolding listedOnto
   length-onto zero l = omega arith
@@ -23,15 +24,18 @@ module _ {A : Type 0} (f : ℕ → A) where
       rw q
   getD-onto-past (suc n) j i l d e = getD-onto-past n j (suc i) (f n ∷ l) d (omega arith)
 
+  -- at a number stands its value
   getD-onto : (n : ℕ) (l : List A) (i : ℕ) (d : A) → i < n → getD (listedOnto n f l) i d ≡ f i
   unfolding listedOnto
   getD-onto zero l i d h = absurd (not-suc-le-zero h)
   getD-onto (suc n) l i d h = ⊎-elim (λ q. getD-onto-past n i 0 (f n ∷ l) d (omega arith) ∙ ap f (sym q)) (λ v. getD-onto n (f n ∷ l) i d v) (last-or-before h)
 
+-- the list has n entries
 pub length-listed : {A : Type 0} (n : ℕ) (f : ℕ → A) → length (listed n f) ≡ n
 unfolding listed
 length-listed n f = omega (arith, length-onto f n [])
 
+-- and at each number its value
 pub getD-listed : {A : Type 0} (n : ℕ) (f : ℕ → A) (i : ℕ) (d : A) → i < n → getD (listed n f) i d ≡ f i
 unfolding listed
 getD-listed n f i d h = getD-onto f n [] i d h

@@ -17,6 +17,7 @@ pub fails : (a : Bool) → (a ≡ true → ⊥) → a ≡ false
 fails true h = absurd (h refl)
 fails false h = refl
 
+-- what fails passes negated
 pub not-of : (a : Bool) → a ≡ false → not a ≡ true
 not-of true e = absurd (true≢false e)
 not-of false e = refl

@@ -70,22 +70,27 @@ module _ (p : Plan) (s : State) (A : Accepted p) (L : Legal p s) where
   lower : ℕ → Bool
   lower c = hasBudget s c && ltb (level p c) (systemCeiling p s)
 
+  -- where one is found it is chosen
   chosen-lower : highest p lower < p .subsystems → chosen p s ≡ highest p lower
   unfolding chosen lower
   chosen-lower h = rw (lt-ltb (highest p lower) _ h, chosen)
 
+  -- otherwise the holder is
   chosen-holder : p .subsystems ≤ highest p lower → chosen p s ≡ ceilingHolder p s
   unfolding chosen lower
   chosen-holder h = rw (le-ltb (highest p lower) _ h, chosen)
 
+  -- what the search asks of a row
   lower-facts : (c : ℕ) → lower c ≡ true → (0 < leftOf s c .0) × (level p c < systemCeiling p s)
   unfolding lower hasBudget
   lower-facts c e = (ltb-true 0 _ (search conjuncts), ltb-true _ _ (search conjuncts))
 
+  -- and back
   facts-lower : (c : ℕ) → 0 < leftOf s c .0 → level p c < systemCeiling p s → lower c ≡ true
   unfolding lower hasBudget
   facts-lower c b l = rw (lt-ltb 0 _ b, lt-ltb _ _ l)
 
+  -- the row found
   found-lower : highest p lower < p .subsystems → ByLevel p s (highest p lower)
   found-lower h =
       let v = lower-facts (highest p lower) (highest-passes p lower h) in
@@ -103,20 +108,24 @@ module _ (p : Plan) (s : State) (A : Accepted p) (L : Legal p s) where
   atCeiling : ℕ
   atCeiling = first (p .tasks) (holdsAtCeiling p s (systemCeiling p s))
 
+  -- where one is found its subsystem is the holder
   holder-there : atCeiling < p .tasks → ceilingHolder p s ≡ owner p atCeiling
   unfolding ceilingHolder atCeiling
   holder-there h = rw (lt-ltb atCeiling _ h, ceilingHolder)
 
+  -- otherwise there is none
   holder-none : p .tasks ≤ atCeiling → ceilingHolder p s ≡ noRow
   unfolding ceilingHolder atCeiling
   holder-none h = rw (le-ltb atCeiling _ h, ceilingHolder)
 
+  -- the task found
   holder-facts : atCeiling < p .tasks → (inSection p (taskAt s atCeiling) ≡ true) × (heldCeiling p s atCeiling ≡ systemCeiling p s)
   unfolding atCeiling holdsAtCeiling
   holder-facts h =
       let v = first-passes (p .tasks) (holdsAtCeiling p s (systemCeiling p s)) h in
       (search conjuncts, eqb-true _ _ (search conjuncts))
 
+  -- its subsystem
   found-holder : p .subsystems ≤ highest p lower → atCeiling < p .tasks → ByHolding p s (owner p atCeiling)
   found-holder n h =
       let v = holder-facts h in
@@ -142,6 +151,7 @@ module _ (p : Plan) (s : State) (A : Accepted p) (L : Legal p s) where
       omega
       (arith, ceiling-lowest h l i, globalCeiling-there p h (lastHeld (taskAt s h)) l (section-declares p h (taskAt s h) (L .task h l) i) A)
 
+  -- nothing found in either search
   found-nobody : p .subsystems ≤ highest p lower → p .tasks ≤ atCeiling → Nobody p s noRow
   found-nobody n h =
       record {
@@ -153,6 +163,7 @@ module _ (p : Plan) (s : State) (A : Accepted p) (L : Legal p s) where
             (row-there 0 (leftOf s d .0));
       }
 
+  -- the three cases
   pub chosen-cases : Chosen p s (chosen p s)
   chosen-cases = go (row-there (highest p lower) (p .subsystems)) (row-there atCeiling (p .tasks))
     where
@@ -170,6 +181,7 @@ module _ (p : Plan) (s : State) (A : Accepted p) (L : Legal p s) where
       go (by-holding H) = rw (← (H .owned)) (A .owner-there (H .holder) (H .there))
       go (nobody N) = absurd (f N)
 
+  -- a chosen row is there
   pub chosen-there : chosen p s ≢ noRow → chosen p s < p .subsystems
   chosen-there n = chosen-or (λ N. n (N .none))
 

@@ -13,14 +13,17 @@ use Rattle.state.specs.State.{taskAt, isWaiting}
 use Rattle.choice.specs.Choice.{chosen, runs, chosenTask, running}
 use Rattle.choice.proofs.Taken.{Takes, taken-takes}
 
+-- a waiting task does not run
 pub runs-waiting : (s : State) (k : ℕ) → isWaiting (taskAt s k) ≡ true → runs s k ≡ noRow
 unfolding runs
 runs-waiting s k w = rw (w, runs)
 
+-- any other does
 pub runs-going : (s : State) (k : ℕ) → isWaiting (taskAt s k) ≡ false → runs s k ≡ k
 unfolding runs
 runs-going s k w = rw (w, runs)
 
+-- no row is never more than no row
 pub runs-nobody : (s : State) → runs s noRow ≡ noRow
 runs-nobody s = ⊎-elim (runs-waiting s noRow) (runs-going s noRow) (decided (isWaiting (taskAt s noRow)))
 
@@ -36,9 +39,11 @@ module _ (p : Plan) (s : State) (A : Accepted p) (k : ℕ) (h : k < p .tasks) (e
           let q = sym (runs-going s (chosenTask p s) w) ∙ e in
           (q, rw q at w)
 
+  -- it does not wait
   pub running-going : isWaiting (taskAt s k) ≡ false
   running-going = going .1
 
+  -- it is the one taken
   pub running-takes : Takes p (taskAt s) (chosen p s) k
   unfolding chosenTask
   running-takes =

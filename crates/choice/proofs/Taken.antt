@@ -97,6 +97,7 @@ module _ (p : Plan) (s : State) (c : ℕ) where
       go (inl h) = inr (rw (taken-there h) (takes-found h))
       go (inr h) = inl (taken-absent h, λ j l o. fails _ (λ a. clash (active-may j o a) (foremost-none p (mayBeTaken p s c) h j l)))
 
+  -- a row taken is one of a task
   pub taken-takes : taken p s c ≢ noRow → Takes p (taskAt s) c (taken p s c)
   taken-takes n = ⊎-elim (λ e. absurd (n (e .0))) (λ t. t) taken-cases
 

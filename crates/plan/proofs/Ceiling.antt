@@ -28,6 +28,7 @@ module _ (p : Plan) (t r : ℕ) (there : t < p .tasks) (declared : declares p t 
   unfolding localCeiling
   localCeiling-first = foremost-first p _ t there declared
 
+  -- it is at most each of them
   pub localCeiling-most : localCeiling p r ≤ t
   unfolding localCeiling foremost
   localCeiling-most = first-most (p .tasks) _ t declared

@@ -48,6 +48,7 @@ module _ (p : Plan) (s u : State) (A : Accepted p) (L : Legal p s) where
       let N = legal-absent p s L d l h in
       (S .left ∙ N .0, S .refill ∙ N .1, S .used ∙ N .2)
 
+  -- the whole state, with the counts of c to be shown
   pub changed-legal : (k c : ℕ) → k < p .tasks → owner p k ≡ c → Changed s u k c → Fits p (taskAt s) k (taskAt u k) → (Tasks p (taskAt u) → CountsAt p u c) → Legal p u
   changed-legal k c h o D F C = legal-of p u A T (elsewhere-legal c (λ j l n. D .others j (λ q. n (ap (owner p) q ∙ o))) (D .elsewhere) (C T)) (absent-legal c (rw o at (A .owner-there k h)) (D .elsewhere))
     where

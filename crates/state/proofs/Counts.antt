@@ -18,6 +18,7 @@ pub record SameSection (p : Plan) (t u : Task) : Type 0 where
   pub inside : inSection p u ≡ inSection p t
   pub last : inSection p t ≡ true → lastHeld u ≡ lastHeld t
 
+-- as for a task that is the same
 pub same-section : (p : Plan) (t u : Task) → u ≡ t → SameSection p t u
 same-section p t u e = record { inside = ap (inSection p) e; last = λ i. ap lastHeld e }
 

@@ -25,28 +25,34 @@ abbrev pub NoSection : Plan → State → ℕ → Type 0
 NoSection p s c = (k : ℕ) → k < p .tasks → owner p k ≡ c → inSection p (taskAt s k) ≡ false
 
 module _ (p : Plan) (s : State) (c : ℕ) where
+  -- budget left and ticks to refill
   counts-facts : countsLegal p s c ≡ true → (leftOf s c .0 ≤ budget p c) × (1 ≤ refillOf s c) × (refillOf s c ≤ period p c)
   unfolding countsLegal
   counts-facts e = (leb-true _ _ (search conjuncts), leb-true 1 _ (search conjuncts), leb-true _ _ (search conjuncts))
 
+  -- used without a section
   unused-facts : unusedLegal p s c ≡ true → NoSection p s c → usedOf s c ≡ 0
   unfolding unusedLegal
   unused-facts e n = eqb-true _ 0 (or-second _ _ e (any-absent (p .tasks) _ (λ k h. fails _ (λ q. clash (and-right (eqb (owner p k) c) _ q) (n k h (eqb-true _ _ (search conjuncts)))))))
 
+  -- and back
   facts-unused : (NoSection p s c → usedOf s c ≡ 0) → unusedLegal p s c ≡ true
   unfolding unusedLegal
   facts-unused f = or-else _ _ (λ e. eq-eqb _ 0 (f (λ k h q. fails _ (λ i. clash (and-of _ _ (eq-eqb _ _ q) i) (any-false (p .tasks) (λ k. eqb (owner p k) c && inSection p (taskAt s k)) e k h)))))
 
+  -- the tests of a subsystem that is there
   subsystem-there : subsystemLegal p s c ≡ true → c < p .subsystems → (countsLegal p s c && unusedLegal p s c) ≡ true
   unfolding subsystemLegal
   subsystem-there e h = implies-true (ltb c (p .subsystems)) _ (search conjuncts) (lt-ltb _ _ h)
 
+  -- of one that is absent
   subsystem-absent : subsystemLegal p s c ≡ true → p .subsystems ≤ c → (leftOf s c .0 ≡ 0) × (refillOf s c ≡ 0) × (usedOf s c ≡ 0)
   unfolding subsystemLegal absentSubsystem
   subsystem-absent e h =
       let v = implies-true (leb (p .subsystems) c) (absentSubsystem s c) (search conjuncts) (le-leb _ _ h) in
       (eqb-true _ 0 (search conjuncts), eqb-true _ 0 (search conjuncts), eqb-true _ 0 (search conjuncts))
 
+  -- and back
   facts-subsystem : Legal p s → c < mostSubsystems → subsystemLegal p s c ≡ true
   unfolding subsystemLegal countsLegal absentSubsystem
   facts-subsystem L l = and-of _ _ (implies-of _ _ there) (implies-of _ _ absent)
@@ -74,14 +80,17 @@ module _ (p : Plan) (s : State) (k : ℕ) where
       && globalsLegal p s k
       && all (p .tasks) (sectionsLegal p s k)
 
+  -- one test of the row, where the task is there
   task-there : taskLegal p s k ≡ true → k < p .tasks → taskTest ≡ true
   unfolding taskLegal taskTest
   task-there e h = implies-true (ltb k (p .tasks)) _ (search conjuncts) (lt-ltb _ _ h)
 
+  -- where it is absent
   task-absent : taskLegal p s k ≡ true → p .tasks ≤ k → Absent (taskAt s k)
   unfolding taskLegal
   task-absent e h = absent-facts (taskAt s k) (implies-true (leb (p .tasks) k) _ (search conjuncts) (le-leb _ _ h))
 
+  -- used and budget left against the length
   section-facts : sectionLegal p s k ≡ true → inSection p (taskAt s k) ≡ true
       → (usedOf s (owner p k) ≤ lengthOf p k (lastHeld (taskAt s k))) × (sectionLeft p s k .0 ≤ leftOf s (owner p k) .0)
   unfolding sectionLegal
@@ -89,15 +98,18 @@ module _ (p : Plan) (s : State) (k : ℕ) where
       let v = implies-true (inSection p (taskAt s k)) _ e i in
       (leb-true _ _ (search conjuncts), leb-true _ _ (search conjuncts))
 
+  -- who may be ahead of a holder of locals
   locals-facts : localsLegal p s k ≡ true → (i : ℕ) → i < taskAt s k .count → isGlobal p (heldAt (taskAt s k) i) ≡ false
       → (j : ℕ) → j < p .tasks → activeBefore p s k j ≡ true → takenBefore p j (localCeiling p (heldAt (taskAt s k) i)) ≡ true
   unfolding localsLegal
   locals-facts e i l g j h a = implies-true (activeBefore p s k j) _ (all-at (p .tasks) _ (or-second _ _ (all-at (taskAt s k .count) _ e i l) g) j h) a
 
+  -- who may be ahead of one that waits or holds a global
   globals-facts : globalsLegal p s k ≡ true → (isWaiting (taskAt s k) || inSection p (taskAt s k)) ≡ true → (j : ℕ) → j < p .tasks → activeBefore p s k j ≡ false
   unfolding globalsLegal
   globals-facts e w j h = not-true _ (all-at (p .tasks) _ (implies-true (isWaiting (taskAt s k) || inSection p (taskAt s k)) _ e w) j h)
 
+  -- two subsystems with globals
   sections-facts : (j : ℕ) → sectionsLegal p s j k ≡ true → inSection p (taskAt s j) ≡ true → inSection p (taskAt s k) ≡ true
       → (owner p j ≡ owner p k → ⊥) → (belowSection p s j k ≡ true) ⊎ (belowSection p s k j ≡ true)
   unfolding sectionsLegal
@@ -127,6 +139,7 @@ module _ (p : Plan) (s : State) (k : ℕ) where
         (λ e. ⊎-elim (or-left (belowSection p s k j) _) (or-right (belowSection p s k j) _)
         (L .sections k j h m (search conjuncts) (search conjuncts) (eqb-false _ _ (not-true _ (search conjuncts)))))
 
+  -- the test of the row from the facts
   facts-task : Legal p s → k < mostTasks → taskLegal p s k ≡ true
   unfolding taskLegal taskTest
   facts-task L l = and-of _ _ (implies-of _ _ there) (implies-of _ _ absent)

@@ -40,22 +40,27 @@ unfolding idleTask
 idle-absent = (refl, refl, refl, λ i l. idle-held i l)
 
 module _ (p : Plan) where
+  -- every task is idle
   fresh-task : (k : ℕ) → k < mostTasks → taskAt (fresh p) k ≡ idleTask
   unfolding taskAt fresh
   fresh-task k h = getD-replicate mostTasks k idleTask idleTask h
 
+  -- full budgets
   fresh-left : (c : ℕ) → c < mostSubsystems → leftOf (fresh p) c .0 ≡ budget p c
   unfolding leftOf fresh
   fresh-left c h = rw (getD-listed mostSubsystems _ c _ h)
 
+  -- full periods
   fresh-refill : (c : ℕ) → c < mostSubsystems → refillOf (fresh p) c ≡ period p c
   unfolding refillOf fresh
   fresh-refill c h = getD-listed mostSubsystems _ c 0 h
 
+  -- nothing used
   fresh-used : (c : ℕ) → c < mostSubsystems → usedOf (fresh p) c ≡ 0
   unfolding usedOf fresh
   fresh-used c h = getD-replicate mostSubsystems c 0 0 h
 
+  -- lists of the right lengths
   pub fresh-sized : Sized (fresh p)
   unfolding fresh
   fresh-sized =
@@ -67,6 +72,7 @@ module _ (p : Plan) where
         held = λ k h. rw (fresh-task k h) idle-sized;
       }
 
+  -- idle tasks are legal together
   fresh-tasks : Accepted p → Tasks p (taskAt (fresh p))
   fresh-tasks A =
       record {
@@ -83,6 +89,7 @@ module _ (p : Plan) where
       still : (k : ℕ) → k < p .tasks → isActive (taskAt (fresh p) k) ≡ true → ⊥
       still k h a = clash (rw (idle k h) at a) idle-active
 
+  -- the fresh state is legal
   pub fresh-legal : Accepted p → Legal p (fresh p)
   fresh-legal A = legal-of p (fresh p) A (fresh-tasks A) counts none
     where

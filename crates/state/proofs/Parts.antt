@@ -57,18 +57,22 @@ abbrev pub NoCounts : State → ℕ → Type 0
 NoCounts s c = (leftOf s c .0 ≡ 0) × (refillOf s c ≡ 0) × (usedOf s c ≡ 0)
 
 module _ (p : Plan) (s : State) where
+  -- the test of one that is ahead
   ahead-test : (j k : ℕ) → Ahead p (taskAt s) j k → activeBefore p s k j ≡ true
   unfolding activeBefore
   ahead-test j k a = rw (eq-eqb _ _ (a .owned), a .before) (a .active)
 
+  -- and what it says
   test-ahead : (j k : ℕ) → activeBefore p s k j ≡ true → Ahead p (taskAt s) j k
   unfolding activeBefore
   test-ahead j k e = record { owned = eqb-true _ _ (search conjuncts); before = search conjuncts; active = search conjuncts }
 
+  -- the test of a level below a ceiling
   under-test : (j k : ℕ) → Under p j (taskAt s k) → belowSection p s j k ≡ true
   unfolding belowSection
   under-test j k u = lt-ltb _ _ u
 
+  -- and what it says
   test-under : (j k : ℕ) → belowSection p s j k ≡ true → Under p j (taskAt s k)
   unfolding belowSection
   test-under j k e = ltb-true _ _ e

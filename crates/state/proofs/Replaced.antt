@@ -35,6 +35,7 @@ module _ (p : Plan) (at to : ℕ → Task) (T : Tasks p at) (k : ℕ) (there : k
       go true e = inl (eqb-true j k e)
       go false e = inr (eqb-false j k e)
 
+  -- another row that is ahead was ahead
   ahead-same : (j h : ℕ) → j ≢ k → Ahead p to j h → Ahead p at j h
   ahead-same j h n a = record { owned = a .owned; before = a .before; active = rw (same j n) at (a .active) }
 
@@ -42,6 +43,7 @@ module _ (p : Plan) (at to : ℕ → Task) (T : Tasks p at) (k : ℕ) (there : k
   ahead-self : (j : ℕ) → Ahead p to j j → ⊥
   ahead-self j a = clash (a .before) (before-irrefl p j)
 
+  -- who is ahead of a holder of locals
   locals-after : (h i : ℕ) → h < p .tasks → i < to h .count → isGlobal p (heldAt (to h) i) ≡ false → (j : ℕ) → j < p .tasks → Ahead p to j h
       → takenBefore p j (localCeiling p (heldAt (to h) i)) ≡ true
   locals-after h i l m g j n a = go (row h) (row j)
@@ -54,6 +56,7 @@ module _ (p : Plan) (at to : ℕ → Task) (T : Tasks p at) (k : ℕ) (there : k
           (F .bound-locals (rw r at (a .active)) h i l (rw (same h u) at m) (rw (same h u) at g) (rw r at (a .owned)) (rw r at (a .before)))
       go (inr u) (inr v) = rw (same h u) (T .locals h i l (rw (same h u) at m) (rw (same h u) at g) j n (ahead-same j h v a))
 
+  -- who is ahead of one that waits or holds a global
   globals-after : (h : ℕ) → h < p .tasks → Engaged p (to h) → (j : ℕ) → j < p .tasks → Ahead p to j h → ⊥
   globals-after h l e j n a = go (row h) (row j)
     where
@@ -63,6 +66,7 @@ module _ (p : Plan) (at to : ℕ → Task) (T : Tasks p at) (k : ℕ) (there : k
       go (inr u) (inl r) = F .bound-globals (rw r at (a .active)) h l (rw (same h u) at e) (rw r at (a .owned)) (rw r at (a .before))
       go (inr u) (inr v) = T .globals h l (rw (same h u) at e) j n (ahead-same j h v a)
 
+  -- two subsystems with globals
   sections-after : (j h : ℕ) → j < p .tasks → h < p .tasks → inSection p (to j) ≡ true → inSection p (to h) ≡ true → (owner p j ≡ owner p h → ⊥)
       → Under p j (to h) ⊎ Under p h (to j)
   sections-after j h l m a b n = go (row j) (row h)
@@ -73,6 +77,7 @@ module _ (p : Plan) (at to : ℕ → Task) (T : Tasks p at) (k : ℕ) (there : k
       go (inr u) (inl r) = rw (r, same j u) (⊎-elim inr inl (F .sections (rw r at b) j l (rw (same j u) at a) (λ o. n (rw r (sym o)))))
       go (inr u) (inr v) = rw (same j u, same h v) (T .sections j h l m (rw (same j u) at a) (rw (same h v) at b) n)
 
+  -- each task by itself
   task-after : (j : ℕ) → j < p .tasks → TaskLegal p j (to j)
   task-after j l = go (row j)
     where
@@ -80,6 +85,7 @@ module _ (p : Plan) (at to : ℕ → Task) (T : Tasks p at) (k : ℕ) (there : k
       go (inl q) = rw q (F .task)
       go (inr u) = rw (same j u) (T .task j l)
 
+  -- all together
   pub replaced : Tasks p to
   replaced =
       record {

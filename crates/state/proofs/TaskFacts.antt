@@ -37,6 +37,7 @@ Written t =
     × (isWaiting t ≡ false → t .waits ≡ noRow)
 
 module _ (t : Task) where
+  -- the facts from the test
   written-facts : wellWritten t ≡ true → Written t
   unfolding wellWritten
   written-facts e = (
@@ -48,6 +49,7 @@ module _ (t : Task) where
     λ w. eqb-true (t .waits) noRow (implies-true (not (isWaiting t)) _ (search conjuncts) (not-of _ w)),
   )
 
+  -- and back
   facts-written : Written t → wellWritten t ≡ true
   unfolding wellWritten
   facts-written W =
@@ -67,6 +69,7 @@ heldTest p k t i =
     && implies (isGlobal p (heldAt t i)) (eqb (i + 1) (t .count))
 
 module _ (p : Plan) (k : ℕ) (t : Task) where
+  -- one held resource
   held-facts : (i : ℕ) → heldTest p k t i ≡ true → HeldLegal p k t i
   unfolding heldTest
   held-facts i e =
@@ -77,6 +80,7 @@ module _ (p : Plan) (k : ℕ) (t : Task) where
         global-last = λ g. eqb-true (i + 1) (t .count) (implies-true (isGlobal p (heldAt t i)) _ (search conjuncts) g);
       }
 
+  -- and back
   facts-held : (i : ℕ) → HeldLegal p k t i → heldTest p k t i ≡ true
   unfolding heldTest
   facts-held i H =
@@ -84,6 +88,7 @@ module _ (p : Plan) (k : ℕ) (t : Task) where
       (lt-ltb _ _ (H .there), H .declared, all-of i _ (λ j h. not-of _ (ne-eqb _ _ (H .distinct j h))))
       (implies-of _ _ (λ g. eq-eqb _ _ (H .global-last g)))
 
+  -- a waiting task
   wait-facts : waitingLegal p k t ≡ true → isWaiting t ≡ true → WaitLegal p k t
   unfolding waitingLegal
   wait-facts e w =
@@ -96,6 +101,7 @@ module _ (p : Plan) (k : ℕ) (t : Task) where
         room = leb-true _ 3 (search conjuncts);
       }
 
+  -- and back
   facts-wait : (isWaiting t ≡ true → WaitLegal p k t) → waitingLegal p k t ≡ true
   unfolding waitingLegal
   facts-wait W = implies-of (isWaiting t) _ go
@@ -141,6 +147,7 @@ idle-waits : (t : Task) → t .condition ≡ 0 → isWaiting t ≡ false
 unfolding isWaiting
 idle-waits t c = rw c
 
+-- an absent task
 pub absent-facts : (t : Task) → absentTask t ≡ true → Absent t
 unfolding absentTask isIdle
 absent-facts t e =
@@ -149,6 +156,7 @@ absent-facts t e =
     let w = written-facts t (search conjuncts) in
     (c, w .3 (idle-waits t c), n, λ i l. w .2 i l (omega arith))
 
+-- and back
 pub facts-absent : (t : Task) → Absent t → absentTask t ≡ true
 unfolding absentTask isIdle
 facts-absent t A =

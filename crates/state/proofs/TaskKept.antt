@@ -36,6 +36,7 @@ unfolding holds
 place-holds t r i l e = any-of (t .count) _ i l (eq-eqb _ _ e)
 
 module _ (p : Plan) (k : ℕ) (t : Task) (T : TaskLegal p k t) where
+  -- readied, holding nothing
   pub readied-legal : t .count ≡ 0 → TaskLegal p k (readied t)
   unfolding readied
   readied-legal z =
@@ -49,6 +50,7 @@ module _ (p : Plan) (k : ℕ) (t : Task) (T : TaskLegal p k t) where
         waiting = λ w. absurd (clash w (readied-waiting t));
       }
 
+  -- started
   pub started-legal : TaskLegal p k (started t)
   unfolding started isIdle isReady
   started-legal =
@@ -63,6 +65,7 @@ module _ (p : Plan) (k : ℕ) (t : Task) (T : TaskLegal p k t) where
       }
 
   module _ (r : ℕ) (there : r < p .resources) (declared : declares p k r ≡ true) (outside : inSection p t ≡ false) where
+    -- waiting for a global
     pub waitingFor-legal : isGlobal p r ≡ true → t .count ≤ 3 → TaskLegal p k (waitingFor t r)
     unfolding waitingFor isIdle isReady isWaiting
     waitingFor-legal g room =
@@ -98,6 +101,7 @@ module _ (p : Plan) (k : ℕ) (t : Task) (T : TaskLegal p k t) where
       taking-other-legal i m =
           held-kept p k t (taking t r) i (λ j n. taking-held-other t r j (omega arith)) (λ g. absurd (local-before i m g)) (T .held i m)
 
+      -- with one resource more
       pub taking-legal : TaskLegal p k (taking t r)
       unfolding taking isIdle isReady
       taking-legal =
@@ -112,6 +116,7 @@ module _ (p : Plan) (k : ℕ) (t : Task) (T : TaskLegal p k t) where
           }
 
   module _ (l : length (t .held) ≡ mostHeld) (some : 1 ≤ t .count) (runs : isWaiting t ≡ false) where
+    -- with one less
     pub givingBack-legal : TaskLegal p k (givingBack t)
     unfolding givingBack isIdle isReady isWaiting
     givingBack-legal =

@@ -129,16 +129,19 @@ module _ (t : Task) (r : ℕ) where
   taking-sized l = length-set (t .held) (t .count) r ∙ l
 
   module _ (l : length (t .held) ≡ mostHeld) (room : t .count < mostHeld) where
+    -- what is taken stands there
     pub taking-held : heldAt (taking t r) (t .count) ≡ r
     unfolding taking heldAt
     taking-held = getD-set-same (t .held) (t .count) r noRow (rw l room)
 
+    -- it is the last
     pub taking-last : lastHeld (taking t r) ≡ r
     unfolding lastHeld
     taking-last =
         let e : taking t r .count - 1 ≡ t .count = omega (arith, taking-count) in
         rw e taking-held
 
+    -- inside a section where it is a global
     pub taking-section : (p : Plan) → inSection p (taking t r) ≡ isGlobal p r
     unfolding inSection
     taking-section p =

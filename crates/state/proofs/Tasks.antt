@@ -43,21 +43,26 @@ module _ (p : Plan) (k : ℕ) (t : Task) (T : TaskLegal p k t) where
   unfolding inSection
   section-count i = leb-true 1 (t .count) (search conjuncts)
 
+  -- the last is a global
   pub section-global : inSection p t ≡ true → isGlobal p (lastHeld t) ≡ true
   unfolding inSection
   section-global i = search conjuncts
 
+  -- and legally held
   pub section-held : inSection p t ≡ true → HeldLegal p k t (t .count - 1)
   section-held i = T .held (t .count - 1) (omega (arith, section-count i))
 
+  -- it is there
   pub section-there : inSection p t ≡ true → lastHeld t < p .resources
   unfolding lastHeld
   section-there i = section-held i .there
 
+  -- and declared
   pub section-declares : inSection p t ≡ true → declares p k (lastHeld t) ≡ true
   unfolding lastHeld
   section-declares i = section-held i .declared
 
+  -- the task is started or waiting
   pub section-active : inSection p t ≡ true → isActive t ≡ true
   section-active i = holder-active (section-count i)
 
@@ -79,6 +84,7 @@ pub record HeldPlace (t : Task) (r : ℕ) : Type 0 where
   pub within : place < t .count
   pub is : heldAt t place ≡ r
 
+-- what is held is held at a place
 pub holds-place : (t : Task) (r : ℕ) → holds t r ≡ true → HeldPlace t r
 unfolding holds
 holds-place t r e =

@@ -29,13 +29,16 @@ pub record Cases (p : Plan) (s : State) (kind k r : ℕ) (C : State → Type 0) 
   pub on-tick : kind ≡ tick → C (ticked p s .state)
 
 module _ (p : Plan) (s : State) (kind k r : ℕ) (C : State → Type 0) (D : Cases p s kind k r C) where
+  -- C of the state of an outcome
   Left : Outcome → Type 0
   Left o = C (o .state)
 
+  -- an answer leaves the state that it is given
   answered-case : (u : State) (n : ℕ) → C u → Left (answered p u n)
   unfolding Left answered
   answered-case u n c = c
 
+  -- a lock takes or waits
   lock-case : refusal p s lock k r ≡ 0 → Left (locked p s k r)
   unfolding locked
   lock-case e = go (isGlobal p r) refl (lengthFitsBudget p s k r) refl
@@ -50,6 +53,7 @@ module _ (p : Plan) (s : State) (kind k r : ℕ) (C : State → Type 0) (D : Cas
       go true g true h = answered-case _ 0 (D .on-take e (λ q. h))
       go true g false h = answered-case _ 1 (D .on-wait e g)
 
+  -- an unlock gives back
   unlock-case : refusal p s unlock k r ≡ 0 → C (unlocked p s k r)
   unfolding unlocked
   unlock-case e = go (isGlobal p r) refl
@@ -59,6 +63,7 @@ module _ (p : Plan) (s : State) (kind k r : ℕ) (C : State → Type 0) (D : Cas
       go true g = D .on-unlock-global e g
       go false g = D .on-unlock-local e g
 
+  -- by the kind of the event
   done-case : refusal p s kind k r ≡ 0 → Left (done p s kind k r)
   unfolding done Left
   done-case e = go (eqb kind release) (eqb kind lock) (eqb kind unlock) (eqb kind end) (eqb kind tick) refl refl refl refl refl
@@ -88,6 +93,7 @@ module _ (p : Plan) (s : State) (kind k r : ℕ) (C : State → Type 0) (D : Cas
       go false false false false true qa qb qc qd qt = D .on-tick (eqb-true kind tick qt)
       go false false false false false qa qb qc qd qt = answered-case s 11 (D .kept)
 
+  -- refused or done
   pub stepped-cases : C (stepped p s kind k r .state)
   unfolding stepped Left
   stepped-cases = go (eqb (refusal p s kind k r) 0) refl

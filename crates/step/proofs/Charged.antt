@@ -74,6 +74,7 @@ module _ (s : State) (c : ℕ) where
   charged-elsewhere d n = record { left = ap (λ q. q .0) (leftOf-withLeft-other s c _ d n); refill = charged-refill d; used = charged-used d }
 
 module _ (p : Plan) (s : State) (A : Accepted p) (S : Kept p s) where
+  -- the tasks, as legal
   T : Tasks p (taskAt s)
   T = legal-tasks p s (S .legal)
 
@@ -92,27 +93,34 @@ module _ (p : Plan) (s : State) (A : Accepted p) (S : Kept p s) where
       }
 
   module _ (k : ℕ) (K : Takes p (taskAt s) (owner p k) k) where
+    -- its subsystem
     c : ℕ
     c = owner p k
 
+    -- a row of the list
     c-most : c < mostSubsystems
     unfolding c
     c-most = omega (arith, A .owner-there k (K .there), A .subsystems-most)
 
+    -- a row of the list
     k-most : k < mostTasks
     k-most = omega (arith, K .there, A .tasks-most)
 
+    -- the task, started
     t : Task
     t = started (taskAt s k)
 
+    -- its section stays
     same : SameSection p (taskAt s k) t
     unfolding t
     same = record { inside = started-section (taskAt s k) p; last = λ i. started-last (taskAt s k) }
 
+    -- it has its four places
     size : length (t .held) ≡ mostHeld
     unfolding t
     size = started-sized (taskAt s k) (S .sized .held k k-most)
 
+    -- it may stand there
     F : Fits p (taskAt s) k t
     unfolding t c
     F = takes-fits p (taskAt s) T k c K t (started-legal p k (taskAt s k) (S .legal .task k (K .there))) (same-crosses p (taskAt s) k t T (K .there) same)
@@ -121,6 +129,7 @@ module _ (p : Plan) (s : State) (A : Accepted p) (S : Kept p s) where
     u : State
     u = withTask (charged s c) k t
 
+    -- what is read there
     u-sized : Sized u
     unfolding u
     u-sized = sized-withTask (charged s c) k t (charged-sized s c (S .sized)) k-most size
@@ -193,6 +202,7 @@ module _ (p : Plan) (s : State) (A : Accepted p) (S : Kept p s) where
                   };
             }
 
+    -- inside or outside
     pub run-kept : (inSection p (taskAt s k) ≡ true → usedOf s (owner p k) < lengthOf p k (lastHeld (taskAt s k))) → Kept p (ran p (charged s (owner p k)) k)
     unfolding u t c
     run-kept more = go (decided (inSection p (taskAt s k)))
@@ -212,12 +222,15 @@ module _ (p : Plan) (s : State) (A : Accepted p) (S : Kept p s) where
 
 -- (c) whole: k is the task taken in c, or no row where c has no section
 module _ (p : Plan) (s : State) (A : Accepted p) (S : Kept p s) (c : ℕ) (h : c < p .subsystems) where
+  -- nobody runs
   idle-run-kept : (k : ℕ) → runs s k ≡ noRow → NoSection p s c → Kept p (ran p (charged s c) (runs s k))
   idle-run-kept k e n = rw (e, ran-nobody p (charged s c) noRow (omega (arith, A .tasks-most))) (charged-kept p s A S c h n)
 
+  -- no task is taken
   pub nobody-run-kept : (k : ℕ) → k ≡ noRow → NoSection p s c → Kept p (ran p (charged s c) (runs s k))
   nobody-run-kept k e n = idle-run-kept k (rw e (runs-nobody s)) n
 
+  -- one is
   pub task-run-kept : (k : ℕ) → Takes p (taskAt s) c k → (inSection p (taskAt s k) ≡ true → usedOf s c < lengthOf p k (lastHeld (taskAt s k))) → Kept p (ran p (charged s c) (runs s k))
   task-run-kept k K more = go (decided (isWaiting (taskAt s k)))
     where

@@ -74,6 +74,7 @@ less-fits p at T k h u TL S =
     }
 
 module _ (p : Plan) (t : Task) where
+  -- a task readied
   pub readied-less : Less p t (readied t)
   readied-less =
       record {
@@ -85,6 +86,7 @@ module _ (p : Plan) (t : Task) where
         last = λ i. readied-last t;
       }
 
+  -- one that is idle now
   pub idle-less : Less p t idleTask
   idle-less =
       record {
@@ -96,6 +98,7 @@ module _ (p : Plan) (t : Task) where
         last = λ i. absurd (clash i (idle-section p));
       }
 
+  -- one that gave back
   pub givingBack-less : inSection p (givingBack t) ≡ false → Less p t (givingBack t)
   givingBack-less out =
       record {

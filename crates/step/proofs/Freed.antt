@@ -24,12 +24,15 @@ use Rattle.step.proofs.Fitting.{Less, less-fits, readied-less, idle-les
 use Rattle.step.proofs.Kept.{Kept, task-kept, closed-kept}
 
 module _ (p : Plan) (s : State) (A : Accepted p) (S : Kept p s) (k : ℕ) (h : k < p .tasks) where
+  -- the task before
   before : TaskLegal p k (taskAt s k)
   before = S .legal .task k h
 
+  -- it has its four places
   size : length (taskAt s k .held) ≡ mostHeld
   size = S .sized .held k (omega (arith, A .tasks-most))
 
+  -- one that holds less may stand there
   fits : (t : Task) → TaskLegal p k t → Less p (taskAt s k) t → Fits p (taskAt s) k t
   fits t TL M = less-fits p (taskAt s) (legal-tasks p s (S .legal)) k h t TL M
 
@@ -48,6 +51,7 @@ module _ (p : Plan) (s : State) (A : Accepted p) (S : Kept p s) (k : ℕ) (h : k
       task-kept p s A S k h idleTask idle-sized (fits idleTask (idle-legal p k) (idle-less p (taskAt s k)))
       (record { inside = idle-section p ∙ sym out; last = λ i. absurd (clash i out) })
     where
+      -- it is outside sections
       out : inSection p (taskAt s k) ≡ false
       out = fails _ (λ i. omega (arith, section-count p k (taskAt s k) before i))
 
@@ -58,6 +62,7 @@ module _ (p : Plan) (s : State) (A : Accepted p) (S : Kept p s) (k : ℕ) (h : k
 
   -- the resource taken last is given back
   module _ (w : isWaiting (taskAt s k) ≡ false) (some : 1 ≤ taskAt s k .count) where
+    -- the task afterwards
     t : Task
     t = givingBack (taskAt s k)
 
@@ -65,21 +70,26 @@ module _ (p : Plan) (s : State) (A : Accepted p) (S : Kept p s) (k : ℕ) (h : k
     unfolding t
     out = givingBack-section p k (taskAt s k) before size some w
 
+    -- it may stand there
     F : Fits p (taskAt s) k t
     unfolding t
     F = fits t (givingBack-legal p k (taskAt s k) before size some w) (givingBack-less p (taskAt s k) out)
 
+    -- it has its four places
     resized : length (t .held) ≡ mostHeld
     unfolding t
     resized = givingBack-sized (taskAt s k) size
 
+    -- it was inside one where the last was a global
     section : isGlobal p (lastHeld (taskAt s k)) ≡ inSection p (taskAt s k)
     section = sym (holder-section p (taskAt s k) some)
 
+    -- a global is given back
     pub unlocked-global-kept : isGlobal p (lastHeld (taskAt s k)) ≡ true → Kept p (withUsed (withTask s k (givingBack (taskAt s k))) (owner p k) 0)
     unfolding t
     unlocked-global-kept g = closed-kept p s A S k h t resized F (sym section ∙ g) out
 
+    -- a local is given back
     pub unlocked-local-kept : isGlobal p (lastHeld (taskAt s k)) ≡ false → Kept p (withTask s k (givingBack (taskAt s k)))
     unfolding t
     unlocked-local-kept g = task-kept p s A S k h t resized F (record { inside = out ∙ sym (sym section ∙ g); last = λ i. absurd (clash i (sym section ∙ g)) })

@@ -45,6 +45,7 @@ pub record Pressed (p : Plan) (s : State) (row : ℕ) : Type 0 where
   pub high : level p by ≤ level p row
   pub busy : 0 < leftOf s by .0
 
+-- so it is where no budget left changed
 pub pressed-still : (p : Plan) (s u : State) (row : ℕ) → Still s u → Pressed p s row → Pressed p u row
 pressed-still p s u row Q P = record { by = P .by; there = P .there; high = P .high; busy = rw (Q .left (P .by)) (P .busy) }
 
@@ -67,18 +68,21 @@ module _ (p : Plan) (s : State) (A : Accepted p) (S : Kept p s) (row : ℕ) wher
       (idle-section p)
 
   module _ (k r : ℕ) where
+    -- release
     release-strict : refusal p s release k r ≡ 0 → strictOf p (released s k) row ≤ strictOf p s row
     unfolding released
     release-strict e =
         let P = release-passed p s k r e in
         task-strict p s (S .sized) row k (omega (arith, P .0, A .tasks-most)) (readied (taskAt s k)) (λ v i. (sym (readied-section (taskAt s k) p) ∙ i, readied-last (taskAt s k)))
 
+    -- end
     end-strict : refusal p s end k r ≡ 0 → strictOf p (endedTask s k) row ≤ strictOf p s row
     unfolding endedTask
     end-strict e =
         let P = end-passed p s k r e in
         task-strict p s (S .sized) row k (omega (arith, P .there, A .tasks-most)) idleTask (λ v i. absurd (clash i (idle-section p)))
 
+    -- lock
     lock-strict : Pressed p s row → refusal p s lock k r ≡ 0 → (t : Task) → strictOf p (withTask s k t) row ≤ strictOf p s row
     lock-strict B e t =
         let P = lock-passed p s k r e in
@@ -91,11 +95,13 @@ module _ (p : Plan) (s : State) (A : Accepted p) (S : Kept p s) (row : ℕ) wher
         givingBack-section p k (taskAt s k) (S .legal .task k (P .there)) (S .sized .held k (omega (arith, P .there, A .tasks-most))) (P .some)
         (running-going p s A k (P .there) (P .runs))
 
+    -- unlock of a local
     unlock-local-strict : refusal p s unlock k r ≡ 0 → strictOf p (withTask s k (givingBack (taskAt s k))) row ≤ strictOf p s row
     unlock-local-strict e =
         let P = unlock-passed p s k r e in
         task-strict p s (S .sized) row k (omega (arith, P .there, A .tasks-most)) (givingBack (taskAt s k)) (λ v i. absurd (clash i (given-back-out e)))
 
+    -- unlock of a global
     unlock-global-strict : refusal p s unlock k r ≡ 0 → isGlobal p r ≡ true → strictOf p (withUsed (withTask s k (givingBack (taskAt s k))) (owner p k) 0) row ≤ strictOf p s row
     unlock-global-strict e g =
         let P = unlock-passed p s k r e in

@@ -30,18 +30,23 @@ use Rattle.step.proofs.Refusals.{lock-passed}
 
 -- what it says that task k holds r
 module _ (p : Plan) (s : State) (L : Legal p s) (k r : ℕ) (h : k < p .tasks) (w : HeldPlace (taskAt s k) r) where
+  -- r is there
   held-there : r < p .resources
   held-there = rw (w .is) at (L .task k h .held (w .place) (w .within) .there)
 
+  -- k declares it
   held-declared : declares p k r ≡ true
   held-declared = rw (w .is) at (L .task k h .held (w .place) (w .within) .declared)
 
+  -- k is started or waiting
   held-active : isActive (taskAt s k) ≡ true
   held-active = holder-active p k (taskAt s k) (L .task k h) (omega (arith, w .within))
 
+  -- with a global k is inside a section
   held-inside : isGlobal p r ≡ true → inSection p (taskAt s k) ≡ true
   held-inside g = global-section p k (taskAt s k) (L .task k h) (w .place) (w .within) (rw (w .is) g) .0
 
+  -- and it is the last
   held-last : isGlobal p r ≡ true → lastHeld (taskAt s k) ≡ r
   held-last g = global-section p k (taskAt s k) (L .task k h) (w .place) (w .within) (rw (w .is) g) .1 ∙ w .is
 
@@ -117,6 +122,7 @@ module _ (p : Plan) (s : State) (A : Accepted p) (S : Kept p s) (k r : ℕ) (K :
       go (inl g) = above-ceiling p k r (taskAt s j) (K .there) declared (held-last p s (S .legal) j r l w g) (outside-under p s A S k K out j l (held-inside p s (S .legal) j r l w g))
       go (inr g) = local g (decided (takenBefore p k j))
 
+  -- so nobody holds it
   pub finds-free : (j : ℕ) → j < p .tasks → holds (taskAt s j) r ≡ false
   finds-free j l = fails _ (held-elsewhere j l)
 

@@ -32,24 +32,31 @@ same-counts : (s : State) (k : ℕ) (t : Task) (c : ℕ) → SameCounts s (withT
 same-counts s k t c = record { left = ap (λ q. q .0) (leftOf-withTask s k t c); refill = refillOf-withTask s k t c; used = usedOf-withTask s k t c }
 
 module _ (p : Plan) (s : State) (A : Accepted p) (S : Kept p s) (k : ℕ) (h : k < p .tasks) (t : Task) (size : length (t .held) ≡ mostHeld) (F : Fits p (taskAt s) k t) where
+  -- k is a row of the list
   there : k < mostTasks
   there = omega (arith, A .tasks-most)
 
+  -- and so is its subsystem
   owner-most : owner p k < mostSubsystems
   owner-most = omega (arith, A .owner-there k h, A .subsystems-most)
 
+  -- t stands there afterwards
   at-k : taskAt (withTask s k t) k ≡ t
   at-k = taskAt-withTask s k t (S .sized) there
 
+  -- the lists keep their lengths
   resized : Sized (withTask s k t)
   resized = sized-withTask s k t (S .sized) there size
 
+  -- nothing else changed
   task-changed : Changed s (withTask s k t) k (owner p k)
   task-changed = record { others = taskAt-withTask-other s k t; elsewhere = λ d n. same-counts s k t d }
 
+  -- t may stand there
   fits-there : Fits p (taskAt s) k (taskAt (withTask s k t) k)
   fits-there = rw at-k F
 
+  -- its section stays as it was
   pub task-kept : SameSection p (taskAt s k) t → Kept p (withTask s k t)
   task-kept E =
       record {

@@ -32,11 +32,13 @@ pub record Shrunk (p : Plan) (s u : State) (k : ℕ) : Type 0 where
 abbrev pub Lowers : Plan → State → State → ℕ → Type 0
 Lowers p s u row = (k : ℕ) → k < p .tasks → level p row < level p (owner p k) → inSection p (taskAt u k) ≡ true → Shrunk p s u k
 
+-- so there is no more left
 shrunk-left : (p : Plan) (s u : State) (k : ℕ) → Shrunk p s u k → sectionLeft p u k .0 ≤ sectionLeft p s k .0
 unfolding sectionLeft
 shrunk-left p s u k W = rw (W .last) (omega (arith, W .used))
 
 module _ (p : Plan) (s u : State) (row : ℕ) (M : Lowers p s u row) where
+  -- who holds row back did so before
   back-before : (k : ℕ) → k < p .tasks → HoldsBack p u row k → HoldsBack p s row k
   back-before k h H =
       let W = M k h (H .lower) (H .inside) in
@@ -52,6 +54,7 @@ module _ (p : Plan) (s u : State) (row : ℕ) (M : Lowers p s u row) where
           rw (facts-holdsBack p s row k (back-before k h H)) (shrunk-left p s u k (M k h (H .lower) (H .inside)))
       go false e = omega arith
 
+  -- nor does the sum
   pub strict-less : strictOf p u row ≤ strictOf p s row
   unfolding strictOf
   strict-less = sum-rises (p .tasks) _ _ counts-less
@@ -67,6 +70,7 @@ module _ (p : Plan) (s u : State) (row : ℕ) (M : Lowers p s u row) where
 
 -- one task changed, and the used count of its subsystem
 module _ (p : Plan) (s u : State) (k row : ℕ) (others : (j : ℕ) → j ≢ k → taskAt u j ≡ taskAt s j) (used : (d : ℕ) → d ≢ owner p k → usedOf u d ≡ usedOf s d) where
+  -- the others need only the used count of their subsystem
   pub change-lowers : OthersOutside p s k (owner p k) ⊎ (usedOf u (owner p k) ≡ usedOf s (owner p k))
       → (level p row < level p (owner p k) → inSection p (taskAt u k) ≡ true → Shrunk p s u k) → Lowers p s u row
   change-lowers rest own j l v i = go (eqb j k) refl

@@ -19,14 +19,17 @@ use Rattle.step.specs.Tick.{refilled}
 use Rattle.step.proofs.Kept.{Kept}
 
 module _ (p : Plan) (s : State) where
+  -- no task changes
   pub refilled-tasks : (k : ℕ) → taskAt (refilled p s) k ≡ taskAt s k
   unfolding refilled taskAt
   refilled-tasks k = refl
 
+  -- and no used count
   pub refilled-used : (c : ℕ) → usedOf (refilled p s) c ≡ usedOf s c
   unfolding refilled usedOf
   refilled-used c = refl
 
+  -- the lists keep their lengths
   refilled-sized : Sized s → Sized (refilled p s)
   unfolding refilled taskAt
   refilled-sized Z =
@@ -54,6 +57,7 @@ module _ (p : Plan) (s : State) where
     refilled-refill-later h = rw (getD-listed mostSubsystems _ c _ l, lt-leb (refillOf s c) 1 h)
 
 module _ (p : Plan) (s : State) (A : Accepted p) (S : Kept p s) where
+  -- the counts of a subsystem
   refilled-counts : (c : ℕ) → c < p .subsystems → CountsAt p (refilled p s) c
   unfolding refilled taskAt usedOf
   refilled-counts c h = go (row-there 1 (refillOf s c))
@@ -87,6 +91,7 @@ module _ (p : Plan) (s : State) (A : Accepted p) (S : Kept p s) where
           let b = refilled-refill-now p s c l now in
           counts (omega (arith, C .left-most)) (omega arith) (omega (arith, A .period-whole c h)) (omega arith)
 
+  -- and of an absent one
   refilled-absent : (c : ℕ) → c < mostSubsystems → p .subsystems ≤ c → NoCounts (refilled p s) c
   refilled-absent c l h =
       let N = legal-absent p s (S .legal) c l h in (
@@ -95,6 +100,7 @@ module _ (p : Plan) (s : State) (A : Accepted p) (S : Kept p s) where
         refilled-used p s c ∙ N .2,
       )
 
+  -- the whole state
   pub refilled-kept : Kept p (refilled p s)
   refilled-kept =
       record {

@@ -52,6 +52,7 @@ module _ (p : Plan) (s : State) (k r : ℕ) where
   unfolding noSuchRow
   task-there kind e = leb-false (p .tasks) k (or-no-left _ _ e)
 
+  -- and for a lock or an unlock
   resource-there : (kind : ℕ) → usesResource kind ≡ true → noSuchRow p kind k r ≡ false → r < p .resources
   unfolding noSuchRow
   resource-there kind u e = leb-false (p .resources) r (rw u at (or-no-right (leb (p .tasks) k) _ e))
@@ -61,6 +62,7 @@ module _ (p : Plan) (s : State) (k r : ℕ) where
   unfolding notRunning
   is-running e = eqb-true (running p s) k (not-false _ e)
 
+  -- 2 3
   pub release-passed : refusal p s release k r ≡ 0 → (k < p .tasks) × (isIdle (taskAt s k) ≡ true)
   unfolding refusal orderTable refuses tests notIdle
   release-passed e =
@@ -69,6 +71,7 @@ module _ (p : Plan) (s : State) (k r : ℕ) where
       let b = next-passed f 3 [] (a .1) (omega arith) in
       (task-there release (a .0), not-false _ (b .0))
 
+  -- 2 4 5 6 9
   pub lock-passed : refusal p s lock k r ≡ 0 → Lockable p s k r
   unfolding refusal orderTable refuses tests notDeclared holdsAlready fifthHeld usesResource
   lock-passed e =
@@ -88,6 +91,7 @@ module _ (p : Plan) (s : State) (k r : ℕ) where
         room = leb-false mostHeld _ (g .0);
       }
 
+  -- 2 4 7
   pub unlock-passed : refusal p s unlock k r ≡ 0 → Unlockable p s k r
   unfolding refusal orderTable refuses tests notLast
   unlock-passed e =
@@ -105,6 +109,7 @@ module _ (p : Plan) (s : State) (k r : ℕ) where
       whole : eqb (taskAt s k .count) 0 ≡ false → 1 ≤ taskAt s k .count
       whole z = omega (arith, eqb-false (taskAt s k .count) 0 z)
 
+  -- 2 4 8
   pub end-passed : refusal p s end k r ≡ 0 → Endable p s k
   unfolding refusal orderTable refuses tests stillHolding
   end-passed e =

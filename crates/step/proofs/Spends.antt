@@ -35,6 +35,7 @@ pub record Spends (p : Plan) (s : State) (o : Outcome) : Type 0 where
   pub idle : p .subsystems ≤ o .subsystem → (d : ℕ) → d < p .subsystems → leftOf s d .0 ≡ 0
 
 module _ (p : Plan) (s : State) (A : Accepted p) (x : Shut) (U : Unspent p (x .state)) (Q : Still s (x .state)) where
+  -- no subsystem is chosen
   spends-idle : chosen p (x .state) ≡ noRow → Spends p s (tickIdle p x)
   unfolding tickIdle
   spends-idle e =
@@ -50,6 +51,7 @@ module _ (p : Plan) (s : State) (A : Accepted p) (x : Shut) (U : Unspent p (x .s
       busy : (d : ℕ) → d < p .subsystems → 0 < leftOf s d .0 → ⊥
       busy d l b = omega (arith, e, A .subsystems-most, budget-chosen p (x .state) A (U .kept .legal) d l (rw (Q .left d) b))
 
+  -- one is
   spends-in : chosen p (x .state) ≢ noRow → Spends p s (tickIn p x (chosen p (x .state)))
   unfolding tickIn
   spends-in n =
@@ -85,6 +87,7 @@ module _ (p : Plan) (s : State) (A : Accepted p) (x : Shut) (U : Unspent p (x .s
           let e = ap (λ q. q .0) (Q .left c) in
           omega (arith, chosen-has-budget p (x .state) A U n)
 
+  -- either
   spends-after : Spends p s (tickAfter p x)
   unfolding tickAfter
   spends-after = go (eqb (chosen p (x .state)) noRow) refl
@@ -93,12 +96,14 @@ module _ (p : Plan) (s : State) (A : Accepted p) (x : Shut) (U : Unspent p (x .s
       go true e = spends-idle (eqb-true _ _ e)
       go false e = spends-in (eqb-false _ _ e)
 
+-- a tick
 pub ticked-spends : (p : Plan) (s : State) → Accepted p → Kept p s → Spends p s (ticked p s)
 unfolding ticked
 ticked-spends p s A S = spends-after p s A (shutSpent p s) (shut-unspent p A s S) (shut-still p s)
 
 -- so, of a row h that is there
 module _ (p : Plan) (s : State) (A : Accepted p) (S : Kept p s) where
+  -- the tick
   D : Spends p s (ticked p s)
   D = ticked-spends p s A S
 
@@ -111,6 +116,7 @@ module _ (p : Plan) (s : State) (A : Accepted p) (S : Kept p s) where
   tick-busy-charged h l b = ⊎-elim (λ v. v) (λ v. absurd (omega (arith, D .idle v h l))) (row-there (ticked p s .subsystem) (p .subsystems))
 
   module _ (h : ℕ) (l : h < p .subsystems) where
+    -- a row of the list
     most : h < mostSubsystems
     most = omega (arith, A .subsystems-most)
 
@@ -128,6 +134,7 @@ module _ (p : Plan) (s : State) (A : Accepted p) (S : Kept p s) where
             omega (arith, later)
         go false e = omega (arith, later, D .left h (λ q. eqb-false (ticked p s .subsystem) h e (sym q)))
 
+    -- one tick less to the refill
     pub tick-refill : 1 < refillOf s h → refillOf (ticked p s .state) h + 1 ≡ refillOf s h
     tick-refill r = rw (D .after) (omega (arith, refilled-refill-later p (D .before) h most (omega (arith, D .refill h)), D .refill h))
 

@@ -43,6 +43,7 @@ pub section-takes : (p : Plan) (s : State) → Sized s → inSection p (taskAt s
 unfolding chosenTask
 section-takes p s Z i = taken-takes p s (chosen p s) (λ e. clash (rw (e, taskAt-past s noRow Z (omega arith)) at i) (idle-section p))
 
+-- a task inside one shows it
 has-section : (p : Plan) (s : State) (k : ℕ) → k < p .tasks → inSection p (taskAt s k) ≡ true → hasSection p s (owner p k) ≡ true
 unfolding hasSection
 has-section p s k h i = any-of (p .tasks) _ k h (and-of _ _ (eq-eqb (owner p k) _ refl) i)
@@ -60,6 +61,7 @@ less-or-same false b f = omega arith
 
 -- one turn
 module _ (p : Plan) (s : State) (A : Accepted p) (S : Kept p s) (k : ℕ) (h : k < p .tasks) (i : inSection p (taskAt s k) ≡ true) where
+  -- the state after it
   u : State
   u = withUsed (endedTask s k) (owner p k) 0
 
@@ -91,6 +93,7 @@ module _ (p : Plan) (s : State) (A : Accepted p) (S : Kept p s) (k : ℕ) (h : k
       let v = w .passes in
       any-of (p .tasks) _ (w .at) (w .there) (and-of (eqb (owner p (w .at)) c) _ (search conjuncts) (inside-before (w .at) (search conjuncts) .1))
 
+  -- so there is one fewer
   closes : openSections p u + 1 ≤ openSections p s
   unfolding openSections
   closes =
@@ -103,6 +106,7 @@ pub record Unspent (p : Plan) (s : State) : Type 0 where
   pub unspent : isSpent p s ≡ false
 
 module _ (p : Plan) (A : Accepted p) where
+  -- what is used up is a section
   pub spent-inside : (s : State) → isSpent p s ≡ true → inSection p (taskAt s (chosenTask p s)) ≡ true
   unfolding isSpent
   spent-inside s e = search conjuncts
@@ -135,6 +139,7 @@ module _ (p : Plan) (A : Accepted p) where
           rest (shutOne p x k) (shut-kept p (x .state) A S k h i) (omega (arith, closes p (x .state) A S k h i))
       go false e = record { kept = S; unspent = e }
 
+  -- all turns
   turns : (n : ℕ) (x : Shut) → Kept p (x .state) → openSections p (x .state) ≤ n → Unspent p (shutTurns n p x .state)
   unfolding shutTurns
   turns zero x S l = none-spent (x .state) S l

@@ -23,16 +23,20 @@ pub record Still (s u : State) : Type 0 where
   pub left : (c : ℕ) → leftOf u c ≡ leftOf s c
   pub refill : (c : ℕ) → refillOf u c ≡ refillOf s c
 
+-- nothing happened
 pub still-same : (s : State) → Still s s
 still-same s = record { left = λ c. refl; refill = λ c. refl }
 
+-- one after the other
 pub still-then : (s u v : State) → Still s u → Still u v → Still s v
 still-then s u v a b = record { left = λ c. b .left c ∙ a .left c; refill = λ c. b .refill c ∙ a .refill c }
 
+-- another task
 still-task : (s : State) (k : ℕ) (t : Task) → Still s (withTask s k t)
 unfolding withTask leftOf refillOf
 still-task s k t = record { left = λ c. refl; refill = λ c. refl }
 
+-- and another used count
 still-used : (s : State) (k : ℕ) (t : Task) (c n : ℕ) → Still s (withUsed (withTask s k t) c n)
 unfolding withTask withUsed leftOf refillOf
 still-used s k t c n = record { left = λ d. refl; refill = λ d. refl }

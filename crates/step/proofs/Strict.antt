@@ -29,15 +29,18 @@ pub record HoldsBack (p : Plan) (s : State) (row k : ℕ) : Type 0 where
   pub reaches : globalCeiling p (lastHeld (taskAt s k)) ≤ level p row
 
 module _ (p : Plan) (s : State) (row k : ℕ) where
+  -- the facts from the test
   pub holdsBack-facts : holdsBack p s row k ≡ true → HoldsBack p s row k
   unfolding holdsBack
   holdsBack-facts e = record { inside = search conjuncts; lower = ltb-true _ _ (search conjuncts); reaches = leb-true _ _ (search conjuncts) }
 
+  -- and back
   pub facts-holdsBack : HoldsBack p s row k → holdsBack p s row k ≡ true
   unfolding holdsBack
   facts-holdsBack H = rw (H .inside, lt-ltb _ _ (H .lower), le-leb _ _ (H .reaches))
 
 module _ (p : Plan) (s : State) (L : Legal p s) (row : ℕ) where
+  -- the tasks, as legal
   T : Tasks p (taskAt s)
   T = legal-tasks p s L
 
@@ -79,6 +82,7 @@ module _ (p : Plan) (s : State) (L : Legal p s) (row : ℕ) where
             (omega (arith, K .lower)),
       )
 
+  -- so the sum is at most the blocking
   pub strict-blocking : strictOf p s row ≤ blocking p row
   strict-blocking = go (any (p .tasks) (holdsBack p s row)) refl
     where

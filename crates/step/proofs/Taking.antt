@@ -33,6 +33,7 @@ outside-free p k t r T out g =
     fails _ (λ e. let w = holds-place t r e in clash (global-section p k t T (w .place) (w .within) (rw (w .is) g) .0) out)
 
 module _ (p : Plan) (s : State) (A : Accepted p) (S : Kept p s) (k : ℕ) (K : Takes p (taskAt s) (chosen p s) k) (out : inSection p (taskAt s k) ≡ false) where
+  -- the tasks, as legal
   T : Tasks p (taskAt s)
   T = legal-tasks p s (S .legal)
 
@@ -51,13 +52,16 @@ module _ (p : Plan) (s : State) (A : Accepted p) (S : Kept p s) (k : ℕ) (K : T
   pub outside-under : (j : ℕ) → j < p .tasks → inSection p (taskAt s j) ≡ true → Under p k (taskAt s j)
   outside-under j l i = rw (K .owned) (outside-by-level .under j l i)
 
+  -- the task has its four places
   size : length (taskAt s k .held) ≡ mostHeld
   size = S .sized .held k (omega (arith, K .there, A .tasks-most))
 
+  -- the other tasks of the subsystem are outside sections
   others : (j : ℕ) → j < p .tasks → owner p j ≡ owner p k → (j ≡ k → ⊥) → inSection p (taskAt s j) ≡ false
   others j l q n = takes-others p s T k (chosen p s) K j l (q ∙ K .owned) n
 
   module _ (r : ℕ) (there : r < p .resources) (declared : declares p k r ≡ true) (room : taskAt s k .count < mostHeld) where
+    -- the task before
     legal-before : TaskLegal p k (taskAt s k)
     legal-before = S .legal .task k (K .there)
 

@@ -53,12 +53,15 @@ refilled-strict p s row = same-strict p s (refilled p s) row (refilled-tasks p s
 
 -- (c): a task that runs uses one tick of its section, and opens none
 module _ (p : Plan) (s : State) (Z : Sized s) (row k : ℕ) (there : k < p .tasks) (most : k < mostTasks) where
+  -- the task, started
   t : Task
   t = started (taskAt s k)
 
+  -- it stands there
   at-k : taskAt (withTask s k t) k ≡ t
   at-k = taskAt-withTask s k t Z most
 
+  -- outside sections
   outside-lowers : inSection p (taskAt s k) ≡ false → Lowers p s (withTask s k t) row
   unfolding t
   outside-lowers out =
@@ -66,17 +69,21 @@ module _ (p : Plan) (s : State) (Z : Sized s) (row k : ℕ) (there : k < p .task
       (λ v i. absurd (clash (rw at-k at i) (started-section (taskAt s k) p ∙ out)))
 
   module _ (i : inSection p (taskAt s k) ≡ true) (others : OthersOutside p s k (owner p k)) (c-most : owner p k < mostSubsystems) where
+    -- inside one
     u : State
     u = withUsed (withTask s k t) (owner p k) (usedOf s (owner p k) + 1)
 
+    -- the same one
     u-last : lastHeld (taskAt u k) ≡ lastHeld (taskAt s k)
     unfolding u t
     u-last = ap lastHeld (taskAt-withUsed (withTask s k t) (owner p k) _ k ∙ at-k) ∙ started-last (taskAt s k)
 
+    -- with one tick more used
     u-used : usedOf u (owner p k) ≡ usedOf s (owner p k) + 1
     unfolding u t
     u-used = usedOf-withUsed (withTask s k t) (owner p k) _ (sized-withTask s k t Z most (started-sized (taskAt s k) (Z .held k most))) c-most
 
+    -- nothing else changed
     inside-lowers : Lowers p s u row
     unfolding u
     inside-lowers =
@@ -92,6 +99,7 @@ module _ (p : Plan) (s : State) (Z : Sized s) (row k : ℕ) (there : k < p .task
 
 -- (c) whole: c is charged and k runs, if it is there
 module _ (p : Plan) (s : State) (A : Accepted p) (S : Kept p s) (c row : ℕ) where
+  -- the charge alone
   charged-strict : strictOf p (charged s c) row ≤ strictOf p s row
   charged-strict = same-strict p s (charged s c) row (charged-tasks s c) (charged-used s c)
 
@@ -99,26 +107,32 @@ module _ (p : Plan) (s : State) (A : Accepted p) (S : Kept p s) (c row : ℕ) wh
   charged-inside : (k : ℕ) (b : Bool) → inSection p (taskAt s k) ≡ b → inSection p (taskAt (charged s c) k) ≡ b
   charged-inside k b e = ap (inSection p) (charged-tasks s c k) ∙ e
 
+  -- the others after the charge
   charged-others : (k : ℕ) → k < p .tasks → inSection p (taskAt s k) ≡ true → OthersOutside p (charged s c) k (owner p k)
   charged-others k h i j l o n =
       charged-inside j false (engaged-others p s (legal-tasks p s (S .legal)) k (owner p k) h refl (or-right (isWaiting (taskAt s k)) _ i) j l o n)
 
   module _ (k : ℕ) (h : k < p .tasks) where
+    -- a row of the list
     k-most : k < mostTasks
     k-most = omega (arith, A .tasks-most)
 
+    -- and its subsystem
     c-most : owner p k < mostSubsystems
     c-most = omega (arith, A .owner-there k h, A .subsystems-most)
 
+    -- the lists keep their lengths
     Z : Sized (charged s c)
     Z = charged-sized s c (S .sized)
 
+    -- the running task is inside a section
     ran-inside-strict : inSection p (taskAt s k) ≡ true → strictOf p (ran p (charged s c) k) row ≤ strictOf p s row
     unfolding u t
     ran-inside-strict i =
         rw (ran-inside p (charged s c) k h (charged-inside k true i))
         (le-trans (strict-less p (charged s c) _ row (inside-lowers p (charged s c) Z row k h k-most (charged-inside k true i) (charged-others k h i) c-most)) charged-strict)
 
+    -- or outside
     ran-outside-strict : inSection p (taskAt s k) ≡ false → strictOf p (ran p (charged s c) k) row ≤ strictOf p s row
     unfolding t
     ran-outside-strict o =
@@ -138,6 +152,7 @@ module _ (p : Plan) (s : State) (A : Accepted p) (S : Kept p s) (c row : ℕ) wh
         (rw (q, charged-used s c (owner p k)) more))
         charged-strict)
 
+  -- either, or nobody runs
   ran-strict : (k : ℕ) → strictOf p (ran p (charged s c) k) row ≤ strictOf p s row
   ran-strict k = go (row-there k (p .tasks)) (decided (inSection p (taskAt s k)))
     where
@@ -153,6 +168,7 @@ given-going p s k w = rw (w, givenWaited)
 
 -- (b) to (d) with nothing used up
 module _ (p : Plan) (s : State) (A : Accepted p) (U : Unspent p s) (row : ℕ) (P : Pressed p s row) where
+  -- (b)
   given-strict : strictOf p (givenWaited p s (taken p s (chosen p s))) row ≤ strictOf p s row
   unfolding givenWaited withTaken
   given-strict = ⊎-elim (λ e. rw (e .0, given-nobody p s (U .kept .sized)) (le-refl _)) some (taken-cases p s (chosen p s))
@@ -202,6 +218,7 @@ pub record Eases (p : Plan) (s : State) (row : ℕ) (o : Outcome) : Type 0 where
   pub falls : o .subsystem < p .subsystems → level p row < level p (o .subsystem) → strictOf p (o .state) row + 1 ≤ strictOf p s row
 
 module _ (p : Plan) (x : Shut) (A : Accepted p) (U : Unspent p (x .state)) (row : ℕ) (P : Pressed p (x .state) row) where
+  -- a subsystem is chosen
   in-eases : chosen p (x .state) ≢ noRow → Eases p (x .state) row (tickIn p x (chosen p (x .state)))
   unfolding tickIn
   in-eases n =
@@ -222,10 +239,12 @@ module _ (p : Plan) (x : Shut) (A : Accepted p) (U : Unspent p (x .state)) (row 
           let e = taken-engaged p (x .state) (chosen p (x .state)) (legal-tasks p (x .state) (U .kept .legal)) (H .holder) (H .there) (H .owned) (or-right (isWaiting (taskAt (x .state) (H .holder))) _ (H .inside)) in
           rw e (omega (arith, refilled-strict p (ran p (charged (givenWaited p (x .state) (H .holder)) (chosen p (x .state))) (runs (givenWaited p (x .state) (H .holder)) (H .holder))) row, holder-falls p (x .state) A U row P low H))
 
+  -- none is
   idle-eases : chosen p (x .state) ≡ noRow → Eases p (x .state) row (tickIdle p x)
   unfolding tickIdle
   idle-eases e = record { less = refilled-strict p (x .state) row; falls = λ h. absurd (omega (arith, A .subsystems-most)) }
 
+  -- either
   after-eases : Eases p (x .state) row (tickAfter p x)
   unfolding tickAfter
   after-eases = go (eqb (chosen p (x .state)) noRow) refl

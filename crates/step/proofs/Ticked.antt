@@ -78,14 +78,17 @@ module _ (p : Plan) (s : State) (A : Accepted p) (U : Unspent p s) where
 
 -- what follows (a)
 module _ (p : Plan) (x : Shut) (A : Accepted p) (U : Unspent p (x .state)) where
+  -- a subsystem is chosen
   tick-in-kept : chosen p (x .state) ≢ noRow → Kept p (tickIn p x (chosen p (x .state)) .state)
   unfolding tickIn chosenTask
   tick-in-kept n = refilled-kept p _ A (run-kept p (x .state) A U n)
 
+  -- none is
   tick-idle-kept : Kept p (tickIdle p x .state)
   unfolding tickIdle
   tick-idle-kept = refilled-kept p (x .state) A (U .kept)
 
+  -- either
   tick-after-kept : Kept p (tickAfter p x .state)
   unfolding tickAfter
   tick-after-kept = go (eqb (chosen p (x .state)) noRow) refl
@@ -98,11 +101,13 @@ module _ (p : Plan) (x : Shut) (A : Accepted p) (U : Unspent p (x .state)) where
       go false e = tick-in-kept (eqb-false _ _ e)
 
 module _ (p : Plan) (s : State) (A : Accepted p) where
+  -- a tick keeps a legal state legal
   pub ticked-kept : Kept p s → Kept p (ticked p s .state)
   unfolding ticked
   ticked-kept S = tick-after-kept p (shutSpent p s) A (shut-unspent p A s S)
 
   module _ (Z : Sized s) (L : Legal p s) where
+    -- the state after (a)
     after-shut : Unspent p (shutSpent p s .state)
     after-shut = shut-unspent p A s (record { sized = Z; legal = L })
 

@@ -69,6 +69,7 @@ waiting-takes p s Z w = taken-takes p s (chosen p s) (λ e. clash (rw (e, taskAt
 
 -- (b) at the task taken in the chosen subsystem
 module _ (p : Plan) (s : State) (A : Accepted p) (S : Kept p s) (k : ℕ) (K : Takes p (taskAt s) (chosen p s) k) where
+  -- what a waiting task says
   W : isWaiting (taskAt s k) ≡ true → WaitLegal p k (taskAt s k)
   W = S .legal .task k (K .there) .waiting
 
