@@ -21,8 +21,10 @@ use Rattle.plan.proofs.Facts.{row-there}
 use Rattle.state.specs.declared.State.{State}
 use Rattle.state.specs.State.{taskAt, leftOf, hasBudget, lastHeld, inSection}
 use Rattle.state.specs.Facts.{Legal}
-use Rattle.state.proofs.Tasks.{section-declares}
-use Rattle.choice.specs.Choice.{holdsAtCeiling, systemCeiling, ceilingHolder, chosen}
+use Rattle.state.proofs.Tasks.{section-engaged, section-declares}
+use Rattle.state.proofs.Parts.{legal-tasks}
+use Rattle.choice.specs.Choice.{holdsAtCeiling, systemCeiling, ceilingHolder, chosen, taken}
+use Rattle.choice.proofs.Taken.{taken-engaged}
 
 -- the ceiling of the global that task k holds
 abbrev pub heldCeiling : Plan → State → ℕ → ℕ
@@ -43,6 +45,11 @@ pub record ByHolding (p : Plan) (s : State) (c : ℕ) : Type 0 where
   pub inside : inSection p (taskAt s holder) ≡ true
   pub lowest : (h : ℕ) → h < p .tasks → inSection p (taskAt s h) ≡ true → heldCeiling p s holder ≤ heldCeiling p s h
   pub not-below : (d : ℕ) → d < p .subsystems → 0 < leftOf s d .0 → heldCeiling p s holder ≤ level p d
+
+-- its task is the one taken there
+pub holder-taken : (p : Plan) (s : State) → Legal p s → (c : ℕ) → (H : ByHolding p s c) → taken p s c ≡ H .holder
+holder-taken p s L c H =
+    taken-engaged p s c (legal-tasks p s L) (H .holder) (H .there) (H .owned) (section-engaged p (taskAt s (H .holder)) (H .inside))
 
 -- no global is held and no budget is left
 pub record Nobody (p : Plan) (s : State) (c : ℕ) : Type 0 where

@@ -35,7 +35,10 @@ pub record Takes (p : Plan) (at : ℕ → Task) (c k : ℕ) : Type 0 where
 -- a task that waits or holds a global is the one taken
 pub takes-engaged : (p : Plan) (at : ℕ → Task) (c k : ℕ) → Tasks p at → Takes p at c k → (h : ℕ) → h < p .tasks → owner p h ≡ c → Engaged p (at h) → k ≡ h
 takes-engaged p at c k T K h l o e =
-    before-total p k h (⊎-elim (λ a. fails _ (λ b. T .globals h l e k (K .there) (record { owned = K .owned ∙ sym o; before = b; active = a }))) (λ u. absurd (u .calm h l o e)) (K .may))
+    before-total p k h
+    (⊎-elim (λ a. fails _ (λ b. T .globals h l e k (K .there) (record { owned = K .owned ∙ sym o; before = b; active = a })))
+    (λ u. absurd (u .calm h l o e))
+    (K .may))
     (K .first h l o (engaged-active p h (at h) (T .task h l) e))
 
 -- a row below n, or no row

@@ -2,3 +2,4 @@ pub mod Order
 pub mod Ceiling
 pub mod Facts
 pub mod Blocking
+pub mod Demand

@@ -16,7 +16,7 @@ use Rattle.state.specs.State.{taskAt, leftOf, refillOf, usedOf, isWaitin
 use Rattle.state.specs.Facts.{Legal}
 use Rattle.state.proofs.Facts.{NoSection}
 use Rattle.state.proofs.Parts.{Engaged, Tasks, CountsAt, NoCounts, legal-tasks, legal-counts, legal-absent, legal-of}
-use Rattle.state.proofs.Tasks.{engaged-one}
+use Rattle.state.proofs.Tasks.{section-engaged, engaged-one}
 use Rattle.state.proofs.Counts.{SameCounts, SameSection, same-section, counts-kept, counts-out, counts-in}
 use Rattle.state.proofs.Replaced.{Fits, replaced}
 
@@ -50,7 +50,9 @@ module _ (p : Plan) (s u : State) (A : Accepted p) (L : Legal p s) where
 
   -- the whole state, with the counts of c to be shown
   pub changed-legal : (k c : ℕ) → k < p .tasks → owner p k ≡ c → Changed s u k c → Fits p (taskAt s) k (taskAt u k) → (Tasks p (taskAt u) → CountsAt p u c) → Legal p u
-  changed-legal k c h o D F C = legal-of p u A T (elsewhere-legal c (λ j l n. D .others j (λ q. n (ap (owner p) q ∙ o))) (D .elsewhere) (C T)) (absent-legal c (rw o at (A .owner-there k h)) (D .elsewhere))
+  changed-legal k c h o D F C =
+      legal-of p u A T (elsewhere-legal c (λ j l n. D .others j (λ q. n (ap (owner p) q ∙ o))) (D .elsewhere) (C T))
+      (absent-legal c (rw o at (A .owner-there k h)) (D .elsewhere))
     where
       T : Tasks p (taskAt u)
       T = replaced p (taskAt s) (taskAt u) (legal-tasks p s L) k h F (D .others)
@@ -66,7 +68,7 @@ OthersOutside p s k c = (j : ℕ) → j < p .tasks → owner p j ≡ c → j ≢
 -- where k waits or is inside one
 pub engaged-others : (p : Plan) (s : State) → Tasks p (taskAt s) → (k c : ℕ) → k < p .tasks → owner p k ≡ c → Engaged p (taskAt s k) → OthersOutside p s k c
 engaged-others p s T k c h o e j l q n =
-    fails _ (λ i. n (engaged-one p (taskAt s) T j k l h (or-right (isWaiting (taskAt s j)) _ i) e (q ∙ sym o)))
+    fails _ (λ i. n (engaged-one p (taskAt s) T j k l h (section-engaged p (taskAt s j) i) e (q ∙ sym o)))
 
 -- with k outside, no task of c is inside
 pub all-outside : (p : Plan) (s : State) (k c : ℕ) → OthersOutside p s k c → inSection p (taskAt s k) ≡ false → NoSection p s c

@@ -11,7 +11,7 @@ use Rattle.state.specs.declared.State.{State}
 use Rattle.state.specs.State.{taskAt, leftOf, refillOf, usedOf, isWaiting, lastHeld, inSection}
 use Rattle.state.proofs.Facts.{NoSection}
 use Rattle.state.proofs.Parts.{Tasks, CountsAt}
-use Rattle.state.proofs.Tasks.{engaged-one}
+use Rattle.state.proofs.Tasks.{section-engaged, engaged-one}
 
 -- a task is inside a section before and after, with the same last resource, or neither time
 pub record SameSection (p : Plan) (t u : Task) : Type 0 where
@@ -75,4 +75,4 @@ module _ (p : Plan) (s : State) (c : ℕ) (left : leftOf s c .0 ≤ budget p c) 
       }
     where
       only : (j : ℕ) → j < p .tasks → owner p j ≡ c → inSection p (taskAt s j) ≡ true → j ≡ k
-      only j l q v = engaged-one p (taskAt s) T j k l h (or-right (isWaiting (taskAt s j)) _ v) (or-right (isWaiting (taskAt s k)) _ i) (q ∙ sym o)
+      only j l q v = engaged-one p (taskAt s) T j k l h (section-engaged p (taskAt s j) v) (section-engaged p (taskAt s k) i) (q ∙ sym o)

@@ -33,12 +33,17 @@ module _ (p : Plan) (s : State) (c : ℕ) where
   -- used without a section
   unused-facts : unusedLegal p s c ≡ true → NoSection p s c → usedOf s c ≡ 0
   unfolding unusedLegal
-  unused-facts e n = eqb-true _ 0 (or-second _ _ e (any-absent (p .tasks) _ (λ k h. fails _ (λ q. clash (and-right (eqb (owner p k) c) _ q) (n k h (eqb-true _ _ (search conjuncts)))))))
+  unused-facts e n =
+      eqb-true _ 0
+      (or-second _ _ e (any-absent (p .tasks) _ (λ k h. fails _ (λ q. clash (and-right (eqb (owner p k) c) _ q) (n k h (eqb-true _ _ (search conjuncts)))))))
 
   -- and back
   facts-unused : (NoSection p s c → usedOf s c ≡ 0) → unusedLegal p s c ≡ true
   unfolding unusedLegal
-  facts-unused f = or-else _ _ (λ e. eq-eqb _ 0 (f (λ k h q. fails _ (λ i. clash (and-of _ _ (eq-eqb _ _ q) i) (any-false (p .tasks) (λ k. eqb (owner p k) c && inSection p (taskAt s k)) e k h)))))
+  facts-unused f =
+      or-else _ _
+      (λ e. eq-eqb _ 0
+      (f (λ k h q. fails _ (λ i. clash (and-of _ _ (eq-eqb _ _ q) i) (any-false (p .tasks) (λ k. eqb (owner p k) c && inSection p (taskAt s k)) e k h)))))
 
   -- the tests of a subsystem that is there
   subsystem-there : subsystemLegal p s c ≡ true → c < p .subsystems → (countsLegal p s c && unusedLegal p s c) ≡ true
@@ -175,7 +180,9 @@ legal-facts p s A e =
       no-refill = λ c l h. subsystem-absent p s c (row c l) h .1;
       no-used = λ c l h. subsystem-absent p s c (row c l) h .2;
       no-task = λ k l h. task-absent p s k (all-at mostTasks (taskLegal p s) (search conjuncts) k l) h;
-      task = λ k h. task-facts p k (taskAt s k) (search (conjuncts, test k h) depth 8) (search (conjuncts, test k h) depth 8) (search (conjuncts, test k h) depth 8) (search (conjuncts, test k h) depth 8);
+      task = λ k h.
+          let v = test k h in
+          task-facts p k (taskAt s k) (search conjuncts depth 8) (search conjuncts depth 8) (search conjuncts depth 8) (search conjuncts depth 8);
       used-most = λ k h i. section-facts p s k (search (conjuncts, test k h) depth 8) i .0;
       left-enough = λ k h i. section-facts p s k (search (conjuncts, test k h) depth 8) i .1;
       locals = λ k i h. locals-facts p s k (search (conjuncts, test k h) depth 8) i;

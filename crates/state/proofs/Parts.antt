@@ -109,7 +109,8 @@ module _ (p : Plan) (s : State) where
 
   -- and put together
 
-  pub legal-of : Accepted p → Tasks p (taskAt s) → ((c : ℕ) → c < p .subsystems → CountsAt p s c) → ((c : ℕ) → c < mostSubsystems → p .subsystems ≤ c → NoCounts s c) → Legal p s
+  pub legal-of : Accepted p → Tasks p (taskAt s) → ((c : ℕ) → c < p .subsystems → CountsAt p s c)
+      → ((c : ℕ) → c < mostSubsystems → p .subsystems ≤ c → NoCounts s c) → Legal p s
   unfolding sectionLeft
   legal-of A T C N =
       record {

@@ -128,7 +128,9 @@ module _ (p : Plan) (k : ℕ) (t : Task) (T : TaskLegal p k t) where
               (λ q. givingBack-held t i (omega arith) ∙ T .unheld i m (omega arith))
               (eq-or-lt-of-le n);
           unawaited = T .unawaited;
-          held = λ i m. held-kept p k t (givingBack t) i (λ j n. givingBack-held t j (omega arith)) (λ g. absurd (omega (arith, T .held i (omega arith) .global-last g))) (T .held i (omega arith));
+          held = λ i m.
+              let H = T .held i (omega arith) in
+              held-kept p k t (givingBack t) i (λ j n. givingBack-held t j (omega arith)) (λ g. absurd (omega (arith, H .global-last g))) H;
           resting = λ e. omega (arith, T .resting e);
           waiting = λ w. absurd (clash w (givingBack-waiting t ∙ runs));
         }

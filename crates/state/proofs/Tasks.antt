@@ -28,6 +28,10 @@ condition-cases t h = go (t .condition) h
     go (suc (suc (suc zero))) l = inr refl
     go (suc (suc (suc (suc n)))) l = absurd (omega arith)
 
+-- who is inside a section counts with those that wait
+pub section-engaged : (p : Plan) (t : Task) → inSection p t ≡ true → Engaged p t
+section-engaged p t i = or-right (isWaiting t) _ i
+
 -- who holds something is inside a section where the last is a global
 pub holder-section : (p : Plan) (t : Task) → 1 ≤ t .count → inSection p t ≡ isGlobal p (lastHeld t)
 unfolding inSection

@@ -231,9 +231,12 @@ module _ (p : Plan) (s : State) (A : Accepted p) (S : Kept p s) (c : ℕ) (h : c
   nobody-run-kept k e n = idle-run-kept k (rw e (runs-nobody s)) n
 
   -- one is
-  pub task-run-kept : (k : ℕ) → Takes p (taskAt s) c k → (inSection p (taskAt s k) ≡ true → usedOf s c < lengthOf p k (lastHeld (taskAt s k))) → Kept p (ran p (charged s c) (runs s k))
+  pub task-run-kept : (k : ℕ) → Takes p (taskAt s) c k → (inSection p (taskAt s k) ≡ true → usedOf s c < lengthOf p k (lastHeld (taskAt s k)))
+      → Kept p (ran p (charged s c) (runs s k))
   task-run-kept k K more = go (decided (isWaiting (taskAt s k)))
     where
       go : (isWaiting (taskAt s k) ≡ true) ⊎ (isWaiting (taskAt s k) ≡ false) → Kept p (ran p (charged s c) (runs s k))
-      go (inl w) = idle-run-kept k (runs-waiting s k w) (all-outside p s k c (takes-others p s (legal-tasks p s (S .legal)) k c K) (S .legal .task k (K .there) .waiting w .outside))
+      go (inl w) =
+          idle-run-kept k (runs-waiting s k w)
+          (all-outside p s k c (takes-others p s (legal-tasks p s (S .legal)) k c K) (S .legal .task k (K .there) .waiting w .outside))
       go (inr w) = rw (runs-going s k w, ← (K .owned)) (run-kept p s A S k (rw (K .owned) K) (rw (K .owned) more))

@@ -13,6 +13,7 @@ use Rattle.state.specs.State.{idleTask, taskAt, isWaiting, isActive, heldAt, la
 use Rattle.state.specs.Update.{readied, givingBack}
 use Rattle.state.specs.Facts.{TaskLegal}
 use Rattle.state.proofs.TaskUpdate.{readied-active, readied-waiting, readied-section, readied-last, readied-held, readied-count, givingBack-active, givingBack-waiting, givingBack-count, givingBack-held, idle-active, idle-waiting, idle-count, idle-section}
+use Rattle.state.proofs.Tasks.{section-engaged}
 use Rattle.state.proofs.Parts.{Engaged, Ahead, Under, Tasks}
 use Rattle.state.proofs.Counts.{SameSection}
 use Rattle.state.proofs.Replaced.{Fits}
@@ -79,7 +80,7 @@ module _ (p : Plan) (t : Task) where
   readied-less =
       record {
         active = λ a. absurd (clash a (readied-active t));
-        engaged = λ e. ⊎-elim (λ w. absurd (clash w (readied-waiting t))) (λ i. or-right (isWaiting t) _ (sym (readied-section t p) ∙ i)) (or-cases _ _ e);
+        engaged = λ e. ⊎-elim (λ w. absurd (clash w (readied-waiting t))) (λ i. section-engaged p t (sym (readied-section t p) ∙ i)) (or-cases _ _ e);
         count = omega (arith, readied-count t);
         held = λ i l. readied-held t i;
         inside = λ i. sym (readied-section t p) ∙ i;
@@ -112,4 +113,4 @@ module _ (p : Plan) (t : Task) where
 
 -- where a task of c is taken, the others are outside sections
 pub takes-others : (p : Plan) (s : State) → Tasks p (taskAt s) → (k c : ℕ) → Takes p (taskAt s) c k → OthersOutside p s k c
-takes-others p s T k c K j l q n = fails _ (λ i. n (sym (takes-engaged p (taskAt s) c k T K j l q (or-right (isWaiting (taskAt s j)) _ i))))
+takes-others p s T k c K j l q n = fails _ (λ i. n (sym (takes-engaged p (taskAt s) c k T K j l q (section-engaged p (taskAt s j) i))))

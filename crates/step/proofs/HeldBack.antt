@@ -17,7 +17,7 @@ use Rattle.state.specs.Update.{withTask, withUsed, readied, waitingFor, taking,
 use Rattle.state.specs.Sized.{Sized}
 use Rattle.state.proofs.TaskUpdate.{readied-section, readied-last, idle-section}
 use Rattle.state.proofs.TaskKept.{givingBack-section}
-use Rattle.state.proofs.Tasks.{holder-section}
+use Rattle.state.proofs.Tasks.{section-engaged, holder-section}
 use Rattle.state.proofs.Parts.{legal-tasks}
 use Rattle.state.proofs.Changed.{engaged-others}
 use Rattle.choice.specs.Choice.{chosen, chosenTask}
@@ -55,7 +55,8 @@ module _ (p : Plan) (s : State) (A : Accepted p) (S : Kept p s) (row : ℕ) wher
   taker-high P k K out = rw (K .owned) (le-trans (outside-by-level p s A S k K out .highest (P .by) (P .there) (P .busy)) (P .high))
 
   -- so what it takes or waits for holds row back no further
-  pub taker-strict : Pressed p s row → (k : ℕ) → Takes p (taskAt s) (chosen p s) k → inSection p (taskAt s k) ≡ false → (t : Task) → strictOf p (withTask s k t) row ≤ strictOf p s row
+  pub taker-strict : Pressed p s row → (k : ℕ) → Takes p (taskAt s) (chosen p s) k → inSection p (taskAt s k) ≡ false → (t : Task)
+      → strictOf p (withTask s k t) row ≤ strictOf p s row
   taker-strict P k K out t =
       task-strict p s (S .sized) row k (omega (arith, K .there, A .tasks-most)) t (λ v i. absurd (omega (arith, taker-high P k K out)))
 
@@ -64,7 +65,7 @@ module _ (p : Plan) (s : State) (A : Accepted p) (S : Kept p s) (row : ℕ) wher
   unfolding endedTask
   shut-one-strict k h i =
       closed-strict p s (S .sized) row k (omega (arith, A .tasks-most)) idleTask
-      (engaged-others p s (legal-tasks p s (S .legal)) k (owner p k) h refl (or-right (isWaiting (taskAt s k)) _ i))
+      (engaged-others p s (legal-tasks p s (S .legal)) k (owner p k) h refl (section-engaged p (taskAt s k) i))
       (idle-section p)
 
   module _ (k r : ℕ) where
@@ -73,7 +74,8 @@ module _ (p : Plan) (s : State) (A : Accepted p) (S : Kept p s) (row : ℕ) wher
     unfolding released
     release-strict e =
         let P = release-passed p s k r e in
-        task-strict p s (S .sized) row k (omega (arith, P .0, A .tasks-most)) (readied (taskAt s k)) (λ v i. (sym (readied-section (taskAt s k) p) ∙ i, readied-last (taskAt s k)))
+        task-strict p s (S .sized) row k (omega (arith, P .0, A .tasks-most)) (readied (taskAt s k))
+        (λ v i. (sym (readied-section (taskAt s k) p) ∙ i, readied-last (taskAt s k)))
 
     -- end
     end-strict : refusal p s end k r ≡ 0 → strictOf p (endedTask s k) row ≤ strictOf p s row
@@ -102,12 +104,13 @@ module _ (p : Plan) (s : State) (A : Accepted p) (S : Kept p s) (row : ℕ) wher
         task-strict p s (S .sized) row k (omega (arith, P .there, A .tasks-most)) (givingBack (taskAt s k)) (λ v i. absurd (clash i (given-back-out e)))
 
     -- unlock of a global
-    unlock-global-strict : refusal p s unlock k r ≡ 0 → isGlobal p r ≡ true → strictOf p (withUsed (withTask s k (givingBack (taskAt s k))) (owner p k) 0) row ≤ strictOf p s row
+    unlock-global-strict : refusal p s unlock k r ≡ 0 → isGlobal p r ≡ true
+        → strictOf p (withUsed (withTask s k (givingBack (taskAt s k))) (owner p k) 0) row ≤ strictOf p s row
     unlock-global-strict e g =
         let P = unlock-passed p s k r e in
         let i = holder-section p (taskAt s k) (P .some) ∙ ap (isGlobal p) (P .last) ∙ g in
         closed-strict p s (S .sized) row k (omega (arith, P .there, A .tasks-most)) (givingBack (taskAt s k))
-        (engaged-others p s (legal-tasks p s (S .legal)) k (owner p k) (P .there) refl (or-right (isWaiting (taskAt s k)) _ i))
+        (engaged-others p s (legal-tasks p s (S .legal)) k (owner p k) (P .there) refl (section-engaged p (taskAt s k) i))
         (given-back-out e)
 
 -- (a) whole

@@ -18,7 +18,7 @@ use Rattle.state.specs.declared.State.{State}
 use Rattle.state.specs.State.{taskAt, isWaiting, isActive, holds, lastHeld, inSection}
 use Rattle.state.specs.Sized.{Sized}
 use Rattle.state.specs.Facts.{Legal}
-use Rattle.state.proofs.Tasks.{HeldPlace, holds-place, holder-active, global-section, engaged-one}
+use Rattle.state.proofs.Tasks.{section-engaged, HeldPlace, holds-place, holder-active, global-section, engaged-one}
 use Rattle.state.proofs.Parts.{Ahead, Under, legal-tasks}
 use Rattle.choice.specs.Choice.{chosen, runs}
 use Rattle.choice.proofs.Taken.{Takes}
@@ -85,7 +85,7 @@ module _ (p : Plan) (s : State) (A : Accepted p) (L : Legal p s) (r : ℕ) where
 
       go : (o : Bool) → eqb (owner p j) (owner p k) ≡ o → j ≡ k
       go true o =
-          engaged-one p (taskAt s) (legal-tasks p s L) j k a b (or-right (isWaiting (taskAt s j)) _ i) (or-right (isWaiting (taskAt s k)) _ m) (eqb-true _ _ o)
+          engaged-one p (taskAt s) (legal-tasks p s L) j k a b (section-engaged p (taskAt s j) i) (section-engaged p (taskAt s k) m) (eqb-true _ _ o)
       go false o =
           absurd
           (⊎-elim (above-ceiling p j r (taskAt s k) a (held-declared p s L j r a v) (held-last p s L k r b w g))
@@ -97,7 +97,8 @@ module _ (p : Plan) (s : State) (A : Accepted p) (L : Legal p s) (r : ℕ) where
   one-holder j k a b e f =
       ⊎-elim (one-global j k a b (holds-place _ r e) (holds-place _ r f)) (one-local j k a b (holds-place _ r e) (holds-place _ r f)) (decided (isGlobal p r))
 
-module _ (p : Plan) (s : State) (A : Accepted p) (S : Kept p s) (k r : ℕ) (K : Takes p (taskAt s) (chosen p s) k) (out : inSection p (taskAt s k) ≡ false) (declared : declares p k r ≡ true) (free : holds (taskAt s k) r ≡ false) where
+module _ (p : Plan) (s : State) (A : Accepted p) (S : Kept p s) (k r : ℕ) (K : Takes p (taskAt s) (chosen p s) k)
+    (out : inSection p (taskAt s k) ≡ false) (declared : declares p k r ≡ true) (free : holds (taskAt s k) r ≡ false) where
   -- the chosen task, outside sections, finds free what it declares and does not hold
   held-elsewhere : (j : ℕ) → j < p .tasks → holds (taskAt s j) r ≡ true → ⊥
   held-elsewhere j l e = go (decided (isGlobal p r))
@@ -119,7 +120,9 @@ module _ (p : Plan) (s : State) (A : Accepted p) (S : Kept p s) (k r : ℕ) (K :
       local g (inr b) = other (before-total p j k (K .first j l (sym (owners g) ∙ K .owned) (held-active p s (S .legal) j r l w)) b)
 
       go : (isGlobal p r ≡ true) ⊎ (isGlobal p r ≡ false) → ⊥
-      go (inl g) = above-ceiling p k r (taskAt s j) (K .there) declared (held-last p s (S .legal) j r l w g) (outside-under p s A S k K out j l (held-inside p s (S .legal) j r l w g))
+      go (inl g) =
+          above-ceiling p k r (taskAt s j) (K .there) declared (held-last p s (S .legal) j r l w g)
+          (outside-under p s A S k K out j l (held-inside p s (S .legal) j r l w g))
       go (inr g) = local g (decided (takenBefore p k j))
 
   -- so nobody holds it

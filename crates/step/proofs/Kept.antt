@@ -17,6 +17,7 @@ use Rattle.state.specs.Update.{withTask, withUsed}
 use Rattle.state.specs.Sized.{Sized}
 use Rattle.state.specs.Facts.{Legal}
 use Rattle.state.proofs.Update.{taskAt-withTask, taskAt-withTask-other, leftOf-withTask, refillOf-withTask, usedOf-withTask, sized-withTask, usedOf-withUsed, usedOf-withUsed-other, sized-withUsed}
+use Rattle.state.proofs.Tasks.{section-engaged}
 use Rattle.state.proofs.Parts.{legal-tasks}
 use Rattle.state.proofs.Counts.{SameCounts, SameSection}
 use Rattle.state.proofs.Replaced.{Fits}
@@ -90,7 +91,7 @@ module _ (p : Plan) (s : State) (A : Accepted p) (S : Kept p s) (k : ℕ) (h : k
         sized = sized-withUsed (withTask s k t) (owner p k) 0 resized;
         legal =
             outside-legal p s (withUsed (withTask s k t) (owner p k) 0) A (S .legal) k (owner p k) h refl changed fits-there (le-refl _) refl
-            (engaged-others p s (legal-tasks p s (S .legal)) k (owner p k) h refl (or-right (isWaiting (taskAt s k)) _ i)) (rw at-k out)
+            (engaged-others p s (legal-tasks p s (S .legal)) k (owner p k) h refl (section-engaged p (taskAt s k) i)) (rw at-k out)
             (usedOf-withUsed (withTask s k t) (owner p k) 0 resized owner-most);
       }
     where

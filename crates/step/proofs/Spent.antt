@@ -20,6 +20,7 @@ use Rattle.state.specs.Update.{withTask, withUsed}
 use Rattle.state.specs.Sized.{Sized}
 use Rattle.state.proofs.Update.{taskAt-past, taskAt-withTask, taskAt-withTask-other, taskAt-withUsed}
 use Rattle.state.proofs.TaskUpdate.{idle-section}
+use Rattle.state.proofs.Tasks.{section-engaged}
 use Rattle.state.proofs.Parts.{legal-tasks}
 use Rattle.state.proofs.Changed.{engaged-others}
 use Rattle.choice.specs.Choice.{chosen, chosenTask}
@@ -83,7 +84,7 @@ module _ (p : Plan) (s : State) (A : Accepted p) (S : Kept p s) (k : ℕ) (h : k
   closed = any-absent (p .tasks) _ (λ j l. fails _ (λ e. none j l (eqb-true (owner p j) _ (search conjuncts)) (inside-before j (search conjuncts))))
     where
       none : (j : ℕ) → j < p .tasks → owner p j ≡ owner p k → (j ≢ k) × (inSection p (taskAt s j) ≡ true) → ⊥
-      none j l o v = clash (v .1) (engaged-others p s (legal-tasks p s (S .legal)) k (owner p k) h refl (or-right (isWaiting (taskAt s k)) _ i) j l o (v .0))
+      none j l o v = clash (v .1) (engaged-others p s (legal-tasks p s (S .legal)) k (owner p k) h refl (section-engaged p (taskAt s k) i) j l o (v .0))
 
   -- and no other subsystem has one that had none
   opened-before : (c : ℕ) → hasSection p u c ≡ true → hasSection p s c ≡ true

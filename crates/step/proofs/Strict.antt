@@ -19,7 +19,7 @@ use Rattle.state.specs.declared.State.{State}
 use Rattle.state.specs.State.{taskAt, isWaiting, lastHeld, inSection, sectionLeft}
 use Rattle.state.specs.Facts.{Legal}
 use Rattle.state.proofs.Parts.{Tasks, legal-tasks}
-use Rattle.state.proofs.Tasks.{engaged-one, section-there, section-declares, section-global}
+use Rattle.state.proofs.Tasks.{section-engaged, engaged-one, section-there, section-declares, section-global}
 use Rattle.step.specs.Strict.{holdsBack, strictOf}
 
 -- what the test says
@@ -50,7 +50,7 @@ module _ (p : Plan) (s : State) (L : Legal p s) (row : ℕ) where
     where
       go : (o : Bool) → eqb (owner p j) (owner p k) ≡ o → j ≡ k
       go true o =
-          engaged-one p (taskAt s) T j k a b (or-right (isWaiting (taskAt s j)) _ (H .inside)) (or-right (isWaiting (taskAt s k)) _ (K .inside)) (eqb-true _ _ o)
+          engaged-one p (taskAt s) T j k a b (section-engaged p (taskAt s j) (H .inside)) (section-engaged p (taskAt s k) (K .inside)) (eqb-true _ _ o)
       go false o =
           absurd
           (⊎-elim (λ u. omega (arith, u, H .lower, K .reaches)) (λ u. omega (arith, u, K .lower, H .reaches))

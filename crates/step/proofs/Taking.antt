@@ -16,7 +16,7 @@ use Rattle.state.specs.Update.{withTask, waitingFor, taking}
 use Rattle.state.specs.Facts.{TaskLegal}
 use Rattle.state.proofs.TaskUpdate.{taking-last, taking-section, taking-sized, waitingFor-section, waitingFor-last, waitingFor-sized}
 use Rattle.state.proofs.TaskKept.{taking-legal, waitingFor-legal}
-use Rattle.state.proofs.Tasks.{holds-place, global-section}
+use Rattle.state.proofs.Tasks.{section-engaged, holds-place, global-section}
 use Rattle.state.proofs.Parts.{Under, Tasks, legal-tasks}
 use Rattle.state.proofs.Counts.{SameSection}
 use Rattle.state.proofs.Replaced.{Fits}
@@ -44,7 +44,7 @@ module _ (p : Plan) (s : State) (A : Accepted p) (S : Kept p s) (k : ℕ) (K : T
       go : Chosen p s (chosen p s) → ByLevel p s (chosen p s)
       go (by-level B) = B
       go (by-holding H) =
-          let q = takes-engaged p (taskAt s) (chosen p s) k T K (H .holder) (H .there) (H .owned) (or-right (isWaiting (taskAt s (H .holder))) _ (H .inside)) in
+          let q = takes-engaged p (taskAt s) (chosen p s) k T K (H .holder) (H .there) (H .owned) (section-engaged p (taskAt s (H .holder)) (H .inside)) in
           absurd (clash (H .inside) (rw q at out))
       go (nobody N) = absurd (omega (arith, K .owned, N .none, A .owner-there k (K .there), A .subsystems-most))
 
@@ -77,7 +77,9 @@ module _ (p : Plan) (s : State) (A : Accepted p) (S : Kept p s) (k : ℕ) (K : T
         section = taking-section (taskAt s k) r size room p
 
         F : Fits p (taskAt s) k t
-        F = takes-fits p (taskAt s) T k (chosen p s) K t (taking-legal p k (taskAt s k) legal-before r there declared out size room free) (λ i j l v n. inl (outside-under j l v))
+        F =
+            takes-fits p (taskAt s) T k (chosen p s) K t (taking-legal p k (taskAt s k) legal-before r there declared out size room free)
+            (λ i j l v n. inl (outside-under j l v))
 
         go : (isGlobal p r ≡ true) ⊎ (isGlobal p r ≡ false) → Kept p (withTask s k t)
         go (inl g) = opened-kept p s A S k (K .there) t (taking-sized (taskAt s k) r size) F others out (section ∙ g) (rw (taking-last (taskAt s k) r size room) (enough g))
@@ -94,4 +96,6 @@ module _ (p : Plan) (s : State) (A : Accepted p) (S : Kept p s) (k : ℕ) (K : T
         same = record { inside = waitingFor-section (taskAt s k) r p; last = λ i. waitingFor-last (taskAt s k) r }
 
         F : Fits p (taskAt s) k t
-        F = takes-fits p (taskAt s) T k (chosen p s) K t (waitingFor-legal p k (taskAt s k) legal-before r there declared out g (omega arith)) (same-crosses p (taskAt s) k t T (K .there) same)
+        F =
+            takes-fits p (taskAt s) T k (chosen p s) K t (waitingFor-legal p k (taskAt s k) legal-before r there declared out g (omega arith))
+            (same-crosses p (taskAt s) k t T (K .there) same)

@@ -20,12 +20,13 @@ use Rattle.state.specs.Update.{withTask, withUsed, started}
 use Rattle.state.specs.Sized.{Sized}
 use Rattle.state.proofs.Update.{taskAt-withTask, taskAt-withTask-other, usedOf-withTask, sized-withTask, taskAt-withUsed, usedOf-withUsed, usedOf-withUsed-other}
 use Rattle.state.proofs.TaskUpdate.{started-section, started-last, started-sized}
+use Rattle.state.proofs.Tasks.{section-engaged}
 use Rattle.state.proofs.Parts.{legal-tasks}
 use Rattle.state.proofs.Changed.{OthersOutside, engaged-others}
 use Rattle.choice.specs.Choice.{chosen, taken, runs, chosenTask}
 use Rattle.choice.proofs.Taken.{Takes, taken-cases, taken-engaged}
 use Rattle.choice.proofs.Running.{runs-going}
-use Rattle.choice.proofs.Choice.{Chosen, by-level, by-holding, nobody, chosen-cases, ByHolding}
+use Rattle.choice.proofs.Choice.{Chosen, by-level, by-holding, nobody, chosen-cases, ByHolding, holder-taken}
 use Rattle.step.specs.declared.Shut.{Shut}
 use Rattle.step.specs.declared.Outcome.{Outcome}
 use Rattle.step.specs.Events.{lengthFitsBudget, withTaken}
@@ -48,8 +49,12 @@ same-strict p s u row tasks used =
     strict-less p s u row (λ k h v i. record { inside = rw (tasks k) at i; last = ap lastHeld (tasks k); used = le-of-eq (sym (used (owner p k))) })
 
 -- (d)
+
 refilled-strict : (p : Plan) (s : State) (row : ℕ) → strictOf p (refilled p s) row ≤ strictOf p s row
 refilled-strict p s row = same-strict p s (refilled p s) row (refilled-tasks p s) (refilled-used p s)
+
+refilled-falls : (p : Plan) (s : State) (row n : ℕ) → strictOf p s row + 1 ≤ n → strictOf p (refilled p s) row + 1 ≤ n
+refilled-falls p s row n l = omega (arith, refilled-strict p s row)
 
 -- (c): a task that runs uses one tick of its section, and opens none
 module _ (p : Plan) (s : State) (Z : Sized s) (row k : ℕ) (there : k < p .tasks) (most : k < mostTasks) where
@@ -110,7 +115,7 @@ module _ (p : Plan) (s : State) (A : Accepted p) (S : Kept p s) (c row : ℕ) wh
   -- the others after the charge
   charged-others : (k : ℕ) → k < p .tasks → inSection p (taskAt s k) ≡ true → OthersOutside p (charged s c) k (owner p k)
   charged-others k h i j l o n =
-      charged-inside j false (engaged-others p s (legal-tasks p s (S .legal)) k (owner p k) h refl (or-right (isWaiting (taskAt s k)) _ i) j l o n)
+      charged-inside j false (engaged-others p s (legal-tasks p s (S .legal)) k (owner p k) h refl (section-engaged p (taskAt s k) i) j l o n)
 
   module _ (k : ℕ) (h : k < p .tasks) where
     -- a row of the list
@@ -210,7 +215,7 @@ module _ (p : Plan) (s : State) (A : Accepted p) (U : Unspent p s) (row : ℕ) (
       going = fails _ (λ w. clash (H .inside) (U .kept .legal .task j (H .there) .waiting w .outside))
 
       taken-j : taken p s (chosen p s) ≡ j
-      taken-j = taken-engaged p s (chosen p s) (legal-tasks p s (U .kept .legal)) j (H .there) (H .owned) (or-right (isWaiting (taskAt s j)) _ (H .inside))
+      taken-j = holder-taken p s (U .kept .legal) (chosen p s) H
 
 -- what an outcome does to what holds row back
 pub record Eases (p : Plan) (s : State) (row : ℕ) (o : Outcome) : Type 0 where
@@ -236,8 +241,8 @@ module _ (p : Plan) (x : Shut) (A : Accepted p) (U : Unspent p (x .state)) (row 
           → strictOf p (refilled p (ran p (charged (givenWaited p (x .state) k) (chosen p (x .state))) (runs (givenWaited p (x .state) k) k))) row + 1
           ≤ strictOf p (x .state) row
       fall low H =
-          let e = taken-engaged p (x .state) (chosen p (x .state)) (legal-tasks p (x .state) (U .kept .legal)) (H .holder) (H .there) (H .owned) (or-right (isWaiting (taskAt (x .state) (H .holder))) _ (H .inside)) in
-          rw e (omega (arith, refilled-strict p (ran p (charged (givenWaited p (x .state) (H .holder)) (chosen p (x .state))) (runs (givenWaited p (x .state) (H .holder)) (H .holder))) row, holder-falls p (x .state) A U row P low H))
+          rw (holder-taken p (x .state) (U .kept .legal) (chosen p (x .state)) H)
+          (refilled-falls p _ row _ (holder-falls p (x .state) A U row P low H))
 
   -- none is
   idle-eases : chosen p (x .state) ≡ noRow → Eases p (x .state) row (tickIdle p x)

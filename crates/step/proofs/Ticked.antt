@@ -15,11 +15,12 @@ use Rattle.state.specs.declared.State.{State}
 use Rattle.state.specs.State.{taskAt, leftOf, isWaiting, isActive, holds}
 use Rattle.state.specs.Sized.{Sized}
 use Rattle.state.specs.Facts.{Legal}
-use Rattle.state.proofs.Tasks.{section-active}
+use Rattle.state.proofs.Facts.{NoSection}
+use Rattle.state.proofs.Tasks.{section-engaged, section-active}
 use Rattle.state.proofs.Parts.{legal-tasks, legal-counts}
 use Rattle.choice.specs.Choice.{chosen, taken, runs, chosenTask}
 use Rattle.choice.proofs.Taken.{Takes, taken-cases, taken-engaged}
-use Rattle.choice.proofs.Choice.{Chosen, by-level, by-holding, nobody, chosen-cases, chosen-there}
+use Rattle.choice.proofs.Choice.{Chosen, by-level, by-holding, nobody, chosen-cases, chosen-there, holder-taken}
 use Rattle.step.specs.declared.Shut.{Shut}
 use Rattle.step.specs.declared.Outcome.{Outcome}
 use Rattle.step.specs.Tick.{isSpent, shutSpent, givenWaited, charged, ran, tickIn, tickIdle, tickAfter, ticked}
@@ -40,7 +41,7 @@ module _ (p : Plan) (s : State) (A : Accepted p) (U : Unspent p s) where
       go (by-level B) = B .budget
       go (by-holding H) =
           let k = H .holder in
-          let q = taken-engaged p s (chosen p s) (legal-tasks p s (U .kept .legal)) k (H .there) (H .owned) (or-right (isWaiting (taskAt s k)) _ (H .inside)) in
+          let q = holder-taken p s (U .kept .legal) (chosen p s) H in
           let more = rw (q, H .owned) at (unspent-unused p s (U .unspent)) in
           let C = legal-counts p s (U .kept .legal) (chosen p s) (chosen-there p s A (U .kept .legal) n) in
           omega (arith, more (H .inside), C .left-enough k (H .there) (H .owned) (H .inside))
@@ -68,8 +69,11 @@ module _ (p : Plan) (s : State) (A : Accepted p) (U : Unspent p s) where
       there : c < p .subsystems
       there = chosen-there p s A (U .kept .legal) n
 
-      none : (k ≡ noRow) × ((j : ℕ) → j < p .tasks → owner p j ≡ c → isActive (taskAt s j) ≡ false) → Kept p (ran p (charged (givenWaited p s k) c) (runs (givenWaited p s k) k))
-      none e = rw (ap (givenWaited p s) (e .0) ∙ given-nobody p s (U .kept .sized)) (nobody-run-kept p s A (U .kept) c there k (e .0) (λ j l o. fails _ (λ i. clash (section-active p j (taskAt s j) (U .kept .legal .task j l) i) (e .1 j l o))))
+      none : (k ≡ noRow) × ((j : ℕ) → j < p .tasks → owner p j ≡ c → isActive (taskAt s j) ≡ false)
+          → Kept p (ran p (charged (givenWaited p s k) c) (runs (givenWaited p s k) k))
+      none e =
+          let out : NoSection p s c = λ j l o. fails _ (λ i. clash (section-active p j (taskAt s j) (U .kept .legal .task j l) i) (e .1 j l o)) in
+          rw (ap (givenWaited p s) (e .0) ∙ given-nobody p s (U .kept .sized)) (nobody-run-kept p s A (U .kept) c there k (e .0) out)
 
       some : Takes p (taskAt s) c k → Kept p (ran p (charged (givenWaited p s k) c) (runs (givenWaited p s k) k))
       some K =

@@ -112,7 +112,9 @@ module _ (p : Plan) (s : State) (A : Accepted p) (S : Kept p s) (k : ℕ) (K : T
   granted w f =
       record {
         kept = granted-kept w f;
-        takes = takes-after p s (chosen p s) k (taking (taskAt s k) (taskAt s k .waits)) (S .sized) (omega (arith, K .there, A .tasks-most)) (taking-active (taskAt s k) (taskAt s k .waits)) K;
+        takes =
+            takes-after p s (chosen p s) k (taking (taskAt s k) (taskAt s k .waits)) (S .sized) (omega (arith, K .there, A .tasks-most))
+            (taking-active (taskAt s k) (taskAt s k .waits)) K;
         unused = granted-unused w;
       }
 
