@@ -11,7 +11,7 @@ use Rattle.state.specs.declared.State.{State}
 use Rattle.state.specs.State.{taskAt}
 use Rattle.state.specs.Update.{withTask, withUsed, waitingFor, givingBack}
 use Rattle.step.specs.declared.Outcome.{Outcome}
-use Rattle.step.specs.Refusals.{release, lock, unlock, end, tick, refusal}
+use Rattle.step.specs.Refusals.{release, lock, unlock, end, tick, orderTable, firstRefusal, refusal}
 use Rattle.step.specs.Events.{answered, released, lengthFitsBudget, withTaken, locked, unlocked, endedTask}
 use Rattle.step.specs.Tick.{ticked}
 use Rattle.step.specs.Step.{done, stepped}
@@ -101,3 +101,8 @@ module _ (p : Plan) (s : State) (kind k r : ℕ) (C : State → Type 0) (D : Cas
       go : (b : Bool) → eqb (refusal p s kind k r) 0 ≡ b → Left (elim b [ true ↦ done p s kind k r | false ↦ answered p s (refusal p s kind k r) ])
       go true e = done-case (eqb-true _ 0 e)
       go false e = answered-case s _ (D .kept)
+
+-- a tick is never refused
+pub stepped-tick : (p : Plan) (s : State) (k r : ℕ) → stepped p s tick k r ≡ ticked p s
+unfolding stepped done refusal orderTable firstRefusal
+stepped-tick p s k r = refl
