@@ -129,6 +129,9 @@ greatest-at (suc n) f k h = ⊎-elim
     (λ v. omega (arith, greatest-at n f k v))
     (last-or-before h)
 
+pub greatest-over : (n : ℕ) (f : ℕ → ℕ) (k x : ℕ) → k < n → x ≤ f k → x ≤ greatest n f
+greatest-over n f k x h l = omega (arith, greatest-at n f k h)
+
 pub greatest-most : (n : ℕ) (f : ℕ → ℕ) (m : ℕ) → ((k : ℕ) → k < n → f k ≤ m) → greatest n f ≤ m
 unfolding greatest
 greatest-most zero f m l = omega arith

@@ -5,7 +5,7 @@ use mathlib.Core.Bool.{true, false, not, _&&_}
 use Prim.Native.Nat.{ℕ, _≤_, _<_}
 use borrow.Author.Tests.{lt-ltb, le-ltb, eqb-true, eq-eqb, not-true}
 use Rattle.below.proofs.Search.{all-at, any-false}
-use Rattle.below.proofs.Tests.{clash, fails, conjuncts, and-of, or-cases, or-second}
+use Rattle.below.proofs.Tests.{clash, fails, conjuncts, and-of, or-left, or-cases, or-second}
 use Rattle.plan.specs.declared.Plan.{Plan}
 use Rattle.plan.specs.Limits.{noRow}
 use Rattle.plan.specs.Plan.{owner, isGlobal, takenBefore, foremost}
@@ -56,7 +56,7 @@ module _ (p : Plan) (s : State) (c : ℕ) where
 
   active-may : (k : ℕ) → owner p k ≡ c → isActive (taskAt s k) ≡ true → mayBeTaken p s c k ≡ true
   unfolding mayBeTaken
-  active-may k o a = rw (eq-eqb _ _ o, a)
+  active-may k o a = and-of _ _ (eq-eqb (owner p k) c o) (or-left _ _ a)
 
   calm-facts : keptFromReady p s c ≡ false → (j : ℕ) → j < p .tasks → owner p j ≡ c → Engaged p (taskAt s j) → ⊥
   unfolding keptFromReady

@@ -1,4 +1,4 @@
--- The test of an accepted plan and its facts with names: each from the other. "Calls from C" says what a block's 31 tests, "The plan text" each condition.
+-- The test of an accepted plan and its facts with names, each from the other: the conditions of "The plan text", and "Admission".
 use mathlib.Core.Path.{_≡_, refl, sym}
 use mathlib.Core.Logic.{_⊎_, inl, inr}
 use mathlib.Core.Bool.{Bool, true, false, not, _||_, and-false, or-false, or-true}

@@ -6,13 +6,13 @@ use Prim.Native.Nat.{ℕ, _+_, _≤_, _<_}
 use native.Mathlib.Omega.{arith}
 use lib.Dec.{eqb}
 use borrow.Author.Tests.{eqb-true, eqb-false}
-use Rattle.below.proofs.Tests.{fails, or-right}
+use Rattle.below.proofs.Tests.{fails}
 use Rattle.plan.specs.declared.Plan.{Plan}
 use Rattle.plan.specs.Limits.{mostSubsystems}
 use Rattle.plan.specs.Plan.{owner, lengthOf}
 use Rattle.plan.specs.Facts.{Accepted}
 use Rattle.state.specs.declared.State.{State}
-use Rattle.state.specs.State.{taskAt, leftOf, refillOf, usedOf, isWaiting, lastHeld, inSection}
+use Rattle.state.specs.State.{taskAt, leftOf, refillOf, usedOf, lastHeld, inSection}
 use Rattle.state.specs.Facts.{Legal}
 use Rattle.state.proofs.Facts.{NoSection}
 use Rattle.state.proofs.Parts.{Engaged, Tasks, CountsAt, NoCounts, legal-tasks, legal-counts, legal-absent, legal-of}

@@ -3,12 +3,12 @@ use mathlib.Core.Path.{_≡_, sym, ap, _∙_}
 use mathlib.Core.Bool.{true}
 use Prim.Native.Nat.{ℕ, _+_, _≤_, _<_}
 use native.Mathlib.Omega.{arith}
-use Rattle.below.proofs.Tests.{clash, or-right}
+use Rattle.below.proofs.Tests.{clash}
 use Rattle.plan.specs.declared.Plan.{Plan}
 use Rattle.plan.specs.Plan.{period, budget, owner, lengthOf}
 use Rattle.state.specs.declared.Task.{Task}
 use Rattle.state.specs.declared.State.{State}
-use Rattle.state.specs.State.{taskAt, leftOf, refillOf, usedOf, isWaiting, lastHeld, inSection}
+use Rattle.state.specs.State.{taskAt, leftOf, refillOf, usedOf, lastHeld, inSection}
 use Rattle.state.proofs.Facts.{NoSection}
 use Rattle.state.proofs.Parts.{Tasks, CountsAt}
 use Rattle.state.proofs.Tasks.{section-engaged, engaged-one}

@@ -4,12 +4,12 @@ use mathlib.Core.Logic.{_⊎_, ⊎-elim}
 use mathlib.Core.Bool.{true, false}
 use Prim.Native.Nat.{ℕ, _≤_, _<_}
 use native.Mathlib.Omega.{arith}
-use Rattle.below.proofs.Tests.{clash, fails, or-cases, or-left, or-right}
+use Rattle.below.proofs.Tests.{clash, fails, or-cases, or-left}
 use Rattle.plan.specs.declared.Plan.{Plan}
 use Rattle.plan.specs.Plan.{owner}
 use Rattle.state.specs.declared.Task.{Task}
 use Rattle.state.specs.declared.State.{State}
-use Rattle.state.specs.State.{idleTask, taskAt, isWaiting, isActive, heldAt, lastHeld, inSection}
+use Rattle.state.specs.State.{idleTask, taskAt, isActive, heldAt, lastHeld, inSection}
 use Rattle.state.specs.Update.{readied, givingBack}
 use Rattle.state.specs.Facts.{TaskLegal}
 use Rattle.state.proofs.TaskUpdate.{readied-active, readied-waiting, readied-section, readied-last, readied-held, readied-count, givingBack-active, givingBack-waiting, givingBack-count, givingBack-held, idle-active, idle-waiting, idle-count, idle-section}

@@ -1,20 +1,17 @@
 -- While a row at least as high as a given one is busy, no event lets what holds that one back grow, and a tick that charges a lower row takes from it.
 use mathlib.Core.Path.{_≡_, refl, sym, ap, _∙_}
-use mathlib.Core.Logic.{_≢_, _⊎_, inl, inr, ⊎-elim}
-use mathlib.Core.Bool.{Bool, true, false, _&&_}
-use Prim.Native.Nat.{ℕ, _+_, _-_, _≤_, _<_}
+use mathlib.Core.Bool.{true, false}
+use Prim.Native.Nat.{ℕ, _≤_, _<_}
 use native.Mathlib.Nat.{le-refl, le-trans}
 use native.Mathlib.Omega.{arith}
-use Rattle.below.proofs.Tests.{clash, conjuncts, or-right}
+use Rattle.below.proofs.Tests.{clash}
 use Rattle.plan.specs.declared.Plan.{Plan}
-use Rattle.plan.specs.Limits.{mostTasks, noRow}
 use Rattle.plan.specs.Plan.{owner, isGlobal, level}
 use Rattle.plan.specs.Facts.{Accepted}
 use Rattle.state.specs.declared.Task.{Task}
 use Rattle.state.specs.declared.State.{State}
-use Rattle.state.specs.State.{idleTask, taskAt, leftOf, usedOf, isWaiting, lastHeld, inSection, sectionLeft}
-use Rattle.state.specs.Update.{withTask, withUsed, readied, waitingFor, taking, givingBack}
-use Rattle.state.specs.Sized.{Sized}
+use Rattle.state.specs.State.{idleTask, taskAt, leftOf, inSection}
+use Rattle.state.specs.Update.{withTask, withUsed, readied, givingBack}
 use Rattle.state.proofs.TaskUpdate.{readied-section, readied-last, idle-section}
 use Rattle.state.proofs.TaskKept.{givingBack-section}
 use Rattle.state.proofs.Tasks.{section-engaged, holder-section}
@@ -31,12 +28,12 @@ use Rattle.step.specs.Strict.{strictOf}
 use Rattle.step.proofs.Kept.{Kept}
 use Rattle.step.proofs.Freed.{shut-kept}
 use Rattle.step.proofs.Taking.{outside-by-level}
-use Rattle.step.proofs.Refusals.{Lockable, lock-passed, Unlockable, unlock-passed, Endable, end-passed, release-passed}
+use Rattle.step.proofs.Refusals.{lock-passed, unlock-passed, end-passed, release-passed}
 use Rattle.step.proofs.Cases.{stepped-cases}
 use Rattle.step.proofs.Turns.{shutState, shut-case}
 use Rattle.step.proofs.Spent.{section-takes, spent-inside}
-use Rattle.step.proofs.Still.{Still, shut-still}
-use Rattle.step.proofs.Lowers.{NoNew, task-strict, closed-strict}
+use Rattle.step.proofs.Still.{Still}
+use Rattle.step.proofs.Lowers.{task-strict, closed-strict}
 
 -- a row at least as high as row is busy
 pub record Pressed (p : Plan) (s : State) (row : ℕ) : Type 0 where

@@ -6,7 +6,7 @@ use Prim.Native.Nat.{ℕ, _<_}
 use native.Mathlib.Omega.{arith}
 use lib.Dec.{eqb}
 use borrow.Author.Tests.{eqb-true, eqb-false}
-use Rattle.below.proofs.Tests.{decided, clash, fails, or-right}
+use Rattle.below.proofs.Tests.{decided, clash, fails}
 use Rattle.plan.specs.declared.Plan.{Plan}
 use Rattle.plan.specs.Plan.{owner, isGlobal, declares, level, takenBefore}
 use Rattle.plan.specs.Ceiling.{globalCeiling}
@@ -15,7 +15,7 @@ use Rattle.plan.proofs.Order.{before-total}
 use Rattle.plan.proofs.Ceiling.{globalCeiling-most, localCeiling-first}
 use Rattle.state.specs.declared.Task.{Task}
 use Rattle.state.specs.declared.State.{State}
-use Rattle.state.specs.State.{taskAt, isWaiting, isActive, holds, lastHeld, inSection}
+use Rattle.state.specs.State.{taskAt, isActive, holds, lastHeld, inSection}
 use Rattle.state.specs.Sized.{Sized}
 use Rattle.state.specs.Facts.{Legal}
 use Rattle.state.proofs.Tasks.{section-engaged, HeldPlace, holds-place, holder-active, global-section, engaged-one}

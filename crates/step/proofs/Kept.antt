@@ -5,14 +5,13 @@ use Prim.Native.Nat.{ℕ, _≤_, _<_}
 use native.Mathlib.Nat.{le-refl}
 use native.Mathlib.Omega.{arith}
 use lib.ListN.{length}
-use Rattle.below.proofs.Tests.{or-right}
 use Rattle.plan.specs.declared.Plan.{Plan}
 use Rattle.plan.specs.Limits.{mostSubsystems, mostTasks}
 use Rattle.plan.specs.Plan.{owner, lengthOf}
 use Rattle.plan.specs.Facts.{Accepted}
 use Rattle.state.specs.declared.Task.{Task}
 use Rattle.state.specs.declared.State.{State}
-use Rattle.state.specs.State.{mostHeld, taskAt, leftOf, refillOf, usedOf, isWaiting, lastHeld, inSection}
+use Rattle.state.specs.State.{mostHeld, taskAt, leftOf, refillOf, usedOf, lastHeld, inSection}
 use Rattle.state.specs.Update.{withTask, withUsed}
 use Rattle.state.specs.Sized.{Sized}
 use Rattle.state.specs.Facts.{Legal}

@@ -9,13 +9,13 @@ use borrow.Author.Tests.{eqb-true, eqb-false, eq-eqb}
 use Rattle.below.specs.Below.{any, sum}
 use Rattle.below.proofs.Search.{any-true, any-of, any-absent}
 use Rattle.below.proofs.Amounts.{sum-at, sum-falls, sum-bounded}
-use Rattle.below.proofs.Tests.{clash, fails, conjuncts, and-of, or-right}
+use Rattle.below.proofs.Tests.{clash, fails, conjuncts, and-of}
 use Rattle.plan.specs.declared.Plan.{Plan}
 use Rattle.plan.specs.Limits.{noRow}
 use Rattle.plan.specs.Plan.{owner}
 use Rattle.plan.specs.Facts.{Accepted}
 use Rattle.state.specs.declared.State.{State}
-use Rattle.state.specs.State.{idleTask, taskAt, isWaiting, inSection}
+use Rattle.state.specs.State.{idleTask, taskAt, inSection}
 use Rattle.state.specs.Update.{withTask, withUsed}
 use Rattle.state.specs.Sized.{Sized}
 use Rattle.state.proofs.Update.{taskAt-past, taskAt-withTask, taskAt-withTask-other, taskAt-withUsed}

@@ -2,7 +2,6 @@
 use mathlib.Core.Path.{_≡_}
 use mathlib.Core.Bool.{true, false}
 use Prim.Native.Nat.{ℕ, _≤_, _<_}
-use borrow.Author.Tests.{leb-true}
 use Rattle.plan.specs.declared.Plan.{Plan}
 use Rattle.plan.specs.Plan.{owner, isGlobal}
 use Rattle.plan.specs.Facts.{Accepted}
@@ -16,7 +15,7 @@ use Rattle.step.specs.Refusals.{release, lock, unlock, end, refusal}
 use Rattle.step.specs.Events.{released, lengthFitsBudget, withTaken, endedTask}
 use Rattle.step.specs.Step.{stepped}
 use Rattle.step.proofs.Kept.{Kept}
-use Rattle.step.proofs.Taking.{taken-kept, waiting-kept}
+use Rattle.step.proofs.Taking.{length-fits, taken-kept, waiting-kept}
 use Rattle.step.proofs.Freed.{released-kept, unlocked-local-kept, unlocked-global-kept, ended-kept}
 use Rattle.step.proofs.Refusals.{lock-passed, unlock-passed, end-passed, release-passed}
 use Rattle.step.proofs.Cases.{stepped-cases}
@@ -49,10 +48,9 @@ module _ (p : Plan) (s : State) (A : Accepted p) (S : Kept p s) (k r : ℕ) wher
 
   -- lock, taken
   take-kept : refusal p s lock k r ≡ 0 → (isGlobal p r ≡ true → lengthFitsBudget p s k r ≡ true) → Kept p (withTaken s k r)
-  unfolding lengthFitsBudget
   take-kept e f =
       let P = lock-passed p s k r e in
-      taken-kept p s A S k (running-takes p s A k (P .there) (P .runs)) (P .outside) r (P .resource) (P .declared) (P .room) (P .free) (λ g. leb-true _ _ (f g))
+      taken-kept p s A S k (running-takes p s A k (P .there) (P .runs)) (P .outside) r (P .resource) (P .declared) (P .room) (P .free) (λ g. length-fits p s k r (f g))
 
   -- lock, waiting
   wait-kept : refusal p s lock k r ≡ 0 → isGlobal p r ≡ true → Kept p (withTask s k (waitingFor (taskAt s k) r))

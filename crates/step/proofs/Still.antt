@@ -1,7 +1,7 @@
 -- "Events": only a tick changes budget left and ticks to refill, and of a tick only (c) and (d) do.
 use mathlib.Core.Path.{_≡_, refl, _∙_}
 use mathlib.Core.Bool.{Bool, true, false, _&&_}
-use Prim.Native.Nat.{ℕ, zero, suc, _+_}
+use Prim.Native.Nat.{ℕ, _+_}
 use lib.Dec.{ltb}
 use Rattle.plan.specs.declared.Plan.{Plan}
 use Rattle.plan.specs.Plan.{owner}
@@ -9,11 +9,9 @@ use Rattle.state.specs.declared.Task.{Task}
 use Rattle.state.specs.declared.State.{State}
 use Rattle.state.specs.State.{taskAt, leftOf, refillOf, usedOf, isWaiting, inSection}
 use Rattle.state.specs.Update.{withTask, withUsed, started}
-use Rattle.choice.specs.Choice.{chosenTask}
-use Rattle.step.specs.declared.Shut.{Shut}
 use Rattle.step.specs.Refusals.{tick}
 use Rattle.step.specs.Events.{released, lengthFitsBudget, withTaken, endedTask}
-use Rattle.step.specs.Tick.{isSpent, shutOne, shutTurns, shutSpent, givenWaited, ran}
+use Rattle.step.specs.Tick.{shutSpent, givenWaited, ran}
 use Rattle.step.specs.Step.{stepped}
 use Rattle.step.proofs.Turns.{shut-case}
 use Rattle.step.proofs.Cases.{stepped-cases}

@@ -9,14 +9,14 @@ use borrow.Author.Tests.{leb-true, ltb-true, le-leb, lt-ltb, eqb-true, eqb-false
 use Rattle.below.specs.Below.{any}
 use Rattle.below.proofs.Search.{any-true, any-false}
 use Rattle.below.proofs.Amounts.{sum-only, sum-zero}
-use Rattle.below.proofs.Tests.{fails, conjuncts, or-right}
+use Rattle.below.proofs.Tests.{fails, conjuncts}
 use Rattle.plan.specs.declared.Plan.{Plan}
 use Rattle.plan.specs.Plan.{owner, level}
 use Rattle.plan.specs.Ceiling.{globalCeiling}
 use Rattle.plan.specs.Admission.{blocking}
 use Rattle.plan.proofs.Blocking.{blocking-at}
 use Rattle.state.specs.declared.State.{State}
-use Rattle.state.specs.State.{taskAt, isWaiting, lastHeld, inSection, sectionLeft}
+use Rattle.state.specs.State.{taskAt, lastHeld, inSection, sectionLeft}
 use Rattle.state.specs.Facts.{Legal}
 use Rattle.state.proofs.Parts.{Tasks, legal-tasks}
 use Rattle.state.proofs.Tasks.{section-engaged, engaged-one, section-there, section-declares, section-global}

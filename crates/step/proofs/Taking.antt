@@ -5,13 +5,14 @@ use mathlib.Core.Bool.{true, false}
 use Prim.Native.Nat.{ℕ, _≤_, _<_}
 use native.Mathlib.Omega.{arith}
 use lib.ListN.{length}
-use Rattle.below.proofs.Tests.{decided, clash, fails, or-right}
+use borrow.Author.Tests.{leb-true}
+use Rattle.below.proofs.Tests.{decided, clash, fails}
 use Rattle.plan.specs.declared.Plan.{Plan}
 use Rattle.plan.specs.Plan.{owner, isGlobal, lengthOf, declares}
 use Rattle.plan.specs.Facts.{Accepted}
 use Rattle.state.specs.declared.Task.{Task}
 use Rattle.state.specs.declared.State.{State}
-use Rattle.state.specs.State.{mostHeld, taskAt, leftOf, isWaiting, holds, inSection}
+use Rattle.state.specs.State.{mostHeld, taskAt, leftOf, holds, inSection}
 use Rattle.state.specs.Update.{withTask, waitingFor, taking}
 use Rattle.state.specs.Facts.{TaskLegal}
 use Rattle.state.proofs.TaskUpdate.{taking-last, taking-section, taking-sized, waitingFor-section, waitingFor-last, waitingFor-sized}
@@ -23,7 +24,7 @@ use Rattle.state.proofs.Replaced.{Fits}
 use Rattle.choice.specs.Choice.{chosen}
 use Rattle.choice.proofs.Taken.{Takes, takes-engaged}
 use Rattle.choice.proofs.Choice.{ByLevel, Chosen, by-level, by-holding, nobody, chosen-cases}
-use Rattle.step.specs.Events.{withTaken}
+use Rattle.step.specs.Events.{lengthFitsBudget, withTaken}
 use Rattle.step.proofs.Fitting.{same-crosses, takes-fits, takes-others}
 use Rattle.step.proofs.Kept.{Kept, task-kept, opened-kept}
 
@@ -31,6 +32,11 @@ use Rattle.step.proofs.Kept.{Kept, task-kept, opened-kept}
 pub outside-free : (p : Plan) (k : ℕ) (t : Task) (r : ℕ) → TaskLegal p k t → inSection p t ≡ false → isGlobal p r ≡ true → holds t r ≡ false
 outside-free p k t r T out g =
     fails _ (λ e. let w = holds-place t r e in clash (global-section p k t T (w .place) (w .within) (rw (w .is) g) .0) out)
+
+-- a length that fits is at most the budget left
+pub length-fits : (p : Plan) (s : State) (k r : ℕ) → lengthFitsBudget p s k r ≡ true → lengthOf p k r ≤ leftOf s (owner p k) .0
+unfolding lengthFitsBudget
+length-fits p s k r e = omega (arith, leb-true)
 
 module _ (p : Plan) (s : State) (A : Accepted p) (S : Kept p s) (k : ℕ) (K : Takes p (taskAt s) (chosen p s) k) (out : inSection p (taskAt s k) ≡ false) where
   -- the tasks, as legal

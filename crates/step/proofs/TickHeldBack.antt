@@ -2,12 +2,12 @@
 use mathlib.Core.Path.{_≡_, refl, sym, ap, _∙_}
 use mathlib.Core.Logic.{_≢_, _⊎_, inl, inr, ⊎-elim}
 use mathlib.Core.Bool.{Bool, true, false, _&&_}
-use Prim.Native.Nat.{ℕ, _+_, _-_, _≤_, _<_}
+use Prim.Native.Nat.{ℕ, _+_, _≤_, _<_}
 use native.Mathlib.Nat.{le-refl, le-trans, le-of-eq}
 use native.Mathlib.Omega.{arith}
 use lib.Dec.{eqb}
 use borrow.Author.Tests.{eqb-true, eqb-false}
-use Rattle.below.proofs.Tests.{decided, clash, fails, conjuncts, or-left, or-right}
+use Rattle.below.proofs.Tests.{decided, clash, fails, conjuncts}
 use Rattle.plan.specs.declared.Plan.{Plan}
 use Rattle.plan.specs.Limits.{mostSubsystems, mostTasks, noRow}
 use Rattle.plan.specs.Plan.{owner, lengthOf, level}
@@ -15,7 +15,7 @@ use Rattle.plan.specs.Facts.{Accepted}
 use Rattle.plan.proofs.Facts.{row-there}
 use Rattle.state.specs.declared.Task.{Task}
 use Rattle.state.specs.declared.State.{State}
-use Rattle.state.specs.State.{taskAt, leftOf, usedOf, isWaiting, lastHeld, inSection, sectionLeft}
+use Rattle.state.specs.State.{taskAt, usedOf, isWaiting, lastHeld, inSection, sectionLeft}
 use Rattle.state.specs.Update.{withTask, withUsed, started}
 use Rattle.state.specs.Sized.{Sized}
 use Rattle.state.proofs.Update.{taskAt-withTask, taskAt-withTask-other, usedOf-withTask, sized-withTask, taskAt-withUsed, usedOf-withUsed, usedOf-withUsed-other}
@@ -24,7 +24,7 @@ use Rattle.state.proofs.Tasks.{section-engaged}
 use Rattle.state.proofs.Parts.{legal-tasks}
 use Rattle.state.proofs.Changed.{OthersOutside, engaged-others}
 use Rattle.choice.specs.Choice.{chosen, taken, runs, chosenTask}
-use Rattle.choice.proofs.Taken.{Takes, taken-cases, taken-engaged}
+use Rattle.choice.proofs.Taken.{Takes, taken-cases}
 use Rattle.choice.proofs.Running.{runs-going}
 use Rattle.choice.proofs.Choice.{Chosen, by-level, by-holding, nobody, chosen-cases, ByHolding, holder-taken}
 use Rattle.step.specs.declared.Shut.{Shut}
@@ -40,7 +40,7 @@ use Rattle.step.proofs.Waited.{unspent-unused, given-nobody}
 use Rattle.step.proofs.Still.{shut-still}
 use Rattle.step.proofs.Ticked.{given-kept}
 use Rattle.step.proofs.Strict.{HoldsBack}
-use Rattle.step.proofs.Lowers.{Shrunk, Lowers, strict-less, strict-falls, change-lowers}
+use Rattle.step.proofs.Lowers.{Lowers, strict-less, strict-falls, change-lowers}
 use Rattle.step.proofs.HeldBack.{Pressed, pressed-still, taker-strict, shut-strict}
 
 -- where no task and no used count changed

@@ -6,7 +6,7 @@ use Prim.Native.Nat.{ℕ, _<_}
 use native.Mathlib.Omega.{arith}
 use lib.Dec.{eqb}
 use borrow.Author.Tests.{eqb-false}
-use Rattle.below.proofs.Tests.{clash, fails, or-right}
+use Rattle.below.proofs.Tests.{clash, fails}
 use Rattle.plan.specs.declared.Plan.{Plan}
 use Rattle.plan.specs.Limits.{noRow}
 use Rattle.plan.specs.Plan.{owner}
@@ -16,10 +16,10 @@ use Rattle.state.specs.State.{taskAt, leftOf, isWaiting, isActive, holds}
 use Rattle.state.specs.Sized.{Sized}
 use Rattle.state.specs.Facts.{Legal}
 use Rattle.state.proofs.Facts.{NoSection}
-use Rattle.state.proofs.Tasks.{section-engaged, section-active}
-use Rattle.state.proofs.Parts.{legal-tasks, legal-counts}
+use Rattle.state.proofs.Tasks.{section-active}
+use Rattle.state.proofs.Parts.{legal-counts}
 use Rattle.choice.specs.Choice.{chosen, taken, runs, chosenTask}
-use Rattle.choice.proofs.Taken.{Takes, taken-cases, taken-engaged}
+use Rattle.choice.proofs.Taken.{Takes, taken-cases}
 use Rattle.choice.proofs.Choice.{Chosen, by-level, by-holding, nobody, chosen-cases, chosen-there, holder-taken}
 use Rattle.step.specs.declared.Shut.{Shut}
 use Rattle.step.specs.declared.Outcome.{Outcome}

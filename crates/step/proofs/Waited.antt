@@ -5,7 +5,7 @@ use mathlib.Core.Bool.{Bool, true, false, _&&_}
 use Prim.Native.Nat.{ℕ, _-_, _<_}
 use native.Mathlib.Omega.{arith}
 use lib.Dec.{eqb}
-use borrow.Author.Tests.{leb-true, eqb-true, eqb-false, eq-eqb}
+use borrow.Author.Tests.{eqb-true, eqb-false}
 use Rattle.below.proofs.Tests.{clash, conjuncts, and-of}
 use Rattle.plan.specs.declared.Plan.{Plan}
 use Rattle.plan.specs.Limits.{mostTasks, noRow}
@@ -28,7 +28,7 @@ use Rattle.step.specs.Events.{lengthFitsBudget, withTaken}
 use Rattle.step.specs.Tick.{isSpent, givenWaited}
 use Rattle.step.proofs.Fitting.{takes-others}
 use Rattle.step.proofs.Kept.{Kept}
-use Rattle.step.proofs.Taking.{outside-free, taken-kept}
+use Rattle.step.proofs.Taking.{length-fits, outside-free, taken-kept}
 use Rattle.step.proofs.Holders.{finds-free}
 
 -- the section of task k, if it is inside one, is not used up
@@ -39,7 +39,7 @@ Unused p s k = inSection p (taskAt s k) ≡ true → usedOf s (owner p k) < leng
 pub unspent-unused : (p : Plan) (s : State) → isSpent p s ≡ false → Unused p s (chosenTask p s)
 unfolding isSpent sectionLeft
 unspent-unused p s e i =
-    let v : ¬ (lengthOf p (chosenTask p s) (lastHeld (taskAt s (chosenTask p s))) - usedOf s (owner p (chosenTask p s)) ≡ 0) = λ z. clash (and-of _ _ i (eq-eqb _ 0 z)) e in
+    let v : ¬ (lengthOf p (chosenTask p s) (lastHeld (taskAt s (chosenTask p s))) - usedOf s (owner p (chosenTask p s)) ≡ 0) = λ z. clash (and-of _ _ i (rw z)) e in
     omega arith
 
 -- a task stays the one taken when it is replaced by an active one
@@ -84,9 +84,8 @@ module _ (p : Plan) (s : State) (A : Accepted p) (S : Kept p s) (k : ℕ) (K : T
   -- a task that takes what it waited for
 
   granted-kept : isWaiting (taskAt s k) ≡ true → lengthFitsBudget p s k (taskAt s k .waits) ≡ true → Kept p (withTaken s k (taskAt s k .waits))
-  unfolding lengthFitsBudget
   granted-kept w f =
-      taken-kept p s A S k K (W w .outside) (taskAt s k .waits) (W w .there) (W w .declared) (omega (arith, W w .room)) (waited-free w) (λ g. leb-true _ _ f)
+      taken-kept p s A S k K (W w .outside) (taskAt s k .waits) (W w .there) (W w .declared) (omega (arith, W w .room)) (waited-free w) (λ g. length-fits p s k _ f)
 
   granted-unused : isWaiting (taskAt s k) ≡ true → Unused p (withTaken s k (taskAt s k .waits)) k
   unfolding withTaken

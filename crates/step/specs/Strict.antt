@@ -1,4 +1,4 @@
--- How long rows of larger level can still hold a row back: the source's strict blocking, as it stands in a state.
+-- How long rows of larger level can still hold a row back, as a number of the state: what "Admission" bounds by B.
 use mathlib.Core.Bool.{Bool, _&&_, cond}
 use Prim.Native.Nat.{ℕ}
 use lib.Dec.{leb, ltb}
