@@ -1,3 +1,4 @@
+pub mod Tests
 pub mod Search
 pub mod Amounts
 pub mod Quotient

@@ -12,7 +12,7 @@ use Rattle.choice.specs.Choice.{orNoRow, chosen, taken, chosenTask}
 use Rattle.choice.specs.Lent.{Lent}
 use Rattle.choice.specs.Columns.{sectionCeiling, Found, chosenBy, unbarred, takenBelow}
 use Rattle.choice.proofs.Chosen.{chosen-is}
-use Rattle.choice.proofs.Taken.{taken-is}
+use Rattle.choice.proofs.TaskTaken.{taken-is}
 
 pub record Computed (subsystems tasks : ℕ) (owners kinds ceilings : List ℕ) (left : List BudgetLeft) (conditions counts held : List ℕ) (m h c low k : ℕ) : Type 0 where
   pub found : Found subsystems tasks (sectionCeiling kinds ceilings counts held) m h

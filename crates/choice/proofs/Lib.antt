@@ -5,4 +5,7 @@ pub mod Ready
 pub mod Sections
 pub mod Chosen
 pub mod Taken
+pub mod TaskTaken
 pub mod Computed
+pub mod Choice
+pub mod Running
