@@ -7,5 +7,5 @@ pub mod Chosen
 pub mod Taken
 pub mod TaskTaken
 pub mod Computed
-pub mod Choice
+pub mod ChosenFacts
 pub mod Running

@@ -1,7 +1,7 @@
 pub mod Bounds
 pub mod OneSubsystem
 pub mod Order
-pub mod Ceiling
+pub mod CeilingLaws
 pub mod Facts
-pub mod Blocking
-pub mod Demand
+pub mod BlockingLaws
+pub mod DemandLaws

@@ -1,6 +1,6 @@
 -- A state with one thing changed: what is read afterwards, and that the lists keep their lengths.
 use mathlib.Core.Path.{_≡_, refl, sym, _∙_}
-use mathlib.Core.Logic.{_≢_, ⊎-elim}
+use mathlib.Core.Logic.{_≢_, _⊎_, inl, inr}
 use mathlib.Core.List.{List}
 use Prim.Native.Nat.{ℕ, zero, suc, _+_, _*_, _≤_, _<_}
 use native.Mathlib.Nat.{not-suc-le-zero, lt-suc-self, le-step}
@@ -57,18 +57,17 @@ withHeld-same : (held : List ℕ) (k : ℕ) (t : Task) (n i : ℕ) → i < n →
     → getD (withHeld held k t n) (heldPlace k i) noRow ≡ heldAt t i
 unfolding withHeld heldPlace
 withHeld-same held k t zero i l fits = absurd (not-suc-le-zero l)
-withHeld-same held k t (suc n) i l fits = ⊎-elim here before (last-or-before l)
+withHeld-same held k t (suc n) i l fits = go (last-or-before l) (λ v. withHeld-same held k t n i v (omega arith))
   where
-    here : i ≡ n → getD (withHeld held k t (suc n)) (heldPlace k i) noRow ≡ heldAt t i
-    here q =
+    go : (i ≡ n) ⊎ (i < n) → (i < n → getD (withHeld held k t n) (heldPlace k i) noRow ≡ heldAt t i)
+        → getD (withHeld held k t (suc n)) (heldPlace k i) noRow ≡ heldAt t i
+    go (inl q) before =
         rw q
         (getD-set-same (withHeld held k t n) (heldPlace k n) (heldAt t n) noRow
         (rw (length-withHeld held k t n) (omega arith)))
-
-    before : i < n → getD (withHeld held k t (suc n)) (heldPlace k i) noRow ≡ heldAt t i
-    before v =
+    go (inr v) before =
         getD-set-other (withHeld held k t n) (heldPlace k n) (heldPlace k i) (heldAt t n) noRow (λ q. absurd (omega arith))
-        ∙ withHeld-same held k t n i v (omega arith)
+        ∙ before v
 
 module _ (s : State) (k : ℕ) (t : Task) where
   pub taskAt-withTask : Sized s → k < mostTasks → length (t .held) ≡ mostHeld → taskAt (withTask s k t) k ≡ t

@@ -16,7 +16,7 @@ use Rattle.state.specs.declared.State.{State}
 use Rattle.state.specs.State.{mostHeld, taskAt, leftOf, refillOf, usedOf, isWaiting, lastHeld, inSection}
 use Rattle.state.specs.Update.{withTask, withUsed, started}
 use Rattle.state.specs.Sized.{Sized}
-use Rattle.state.proofs.Update.{taskAt-withTask, taskAt-withTask-other, leftOf-withTask, refillOf-withTask, usedOf-withTask, sized-withTask, leftOf-withLeft, leftOf-withLeft-other, taskAt-withLeft, refillOf-withLeft, usedOf-withLeft, sized-withLeft, usedOf-withUsed, usedOf-withUsed-other, sized-withUsed}
+use Rattle.state.proofs.Update.{held-sized, taskAt-withTask, taskAt-withTask-other, leftOf-withTask, refillOf-withTask, usedOf-withTask, sized-withTask, leftOf-withLeft, leftOf-withLeft-other, taskAt-withLeft, refillOf-withLeft, usedOf-withLeft, sized-withLeft, usedOf-withUsed, usedOf-withUsed-other, sized-withUsed}
 use Rattle.state.proofs.TaskUpdate.{started-section, started-last, started-sized}
 use Rattle.state.proofs.TaskKept.{started-legal}
 use Rattle.state.proofs.Facts.{NoSection}

@@ -13,6 +13,7 @@ use Rattle.state.specs.declared.State.{State}
 use Rattle.state.specs.State.{mostHeld, idleTask, taskAt, isIdle, isWaiting, lastHeld, inSection}
 use Rattle.state.specs.Update.{withTask, withUsed, readied, givingBack}
 use Rattle.state.specs.Facts.{TaskLegal}
+use Rattle.state.proofs.Update.{held-sized}
 use Rattle.state.proofs.TaskUpdate.{readied-section, readied-last, readied-sized, givingBack-sized, idle-section, idle-sized}
 use Rattle.state.proofs.TaskKept.{readied-legal, givingBack-legal, givingBack-section}
 use Rattle.state.proofs.Tasks.{holder-section, section-count}

@@ -10,9 +10,11 @@ use Rattle.plan.specs.Plan.{owner, isGlobal, level}
 use Rattle.plan.specs.Facts.{Accepted}
 use Rattle.state.specs.declared.Task.{Task}
 use Rattle.state.specs.declared.State.{State}
-use Rattle.state.specs.State.{idleTask, taskAt, leftOf, inSection}
+use lib.ListN.{length}
+use Rattle.state.specs.State.{mostHeld, idleTask, taskAt, leftOf, inSection}
 use Rattle.state.specs.Update.{withTask, withUsed, readied, givingBack}
-use Rattle.state.proofs.TaskUpdate.{readied-section, readied-last, idle-section}
+use Rattle.state.proofs.Update.{held-sized}
+use Rattle.state.proofs.TaskUpdate.{readied-section, readied-last, readied-sized, idle-section, idle-sized, taking-sized, waitingFor-sized, givingBack-sized}
 use Rattle.state.proofs.TaskKept.{givingBack-section}
 use Rattle.state.proofs.Tasks.{section-engaged, holder-section}
 use Rattle.state.proofs.Parts.{legal-tasks}
@@ -53,15 +55,15 @@ module _ (p : Plan) (s : State) (A : Accepted p) (S : Kept p s) (row : ℕ) wher
 
   -- so what it takes or waits for holds row back no further
   pub taker-strict : Pressed p s row → (k : ℕ) → Takes p (taskAt s) (chosen p s) k → inSection p (taskAt s k) ≡ false → (t : Task)
-      → strictOf p (withTask s k t) row ≤ strictOf p s row
-  taker-strict P k K out t =
-      task-strict p s (S .sized) row k (omega (arith, K .there, A .tasks-most)) t (λ v i. absurd (omega (arith, taker-high P k K out)))
+      → length (t .held) ≡ mostHeld → strictOf p (withTask s k t) row ≤ strictOf p s row
+  taker-strict P k K out t size =
+      task-strict p s (S .sized) row k (omega (arith, K .there, A .tasks-most)) t size (λ v i. absurd (omega (arith, taker-high P k K out)))
 
   -- (a) one turn
   shut-one-strict : (k : ℕ) → k < p .tasks → inSection p (taskAt s k) ≡ true → strictOf p (shutState p s k) row ≤ strictOf p s row
   unfolding endedTask
   shut-one-strict k h i =
-      closed-strict p s (S .sized) row k (omega (arith, A .tasks-most)) idleTask
+      closed-strict p s (S .sized) row k (omega (arith, A .tasks-most)) idleTask idle-sized
       (engaged-others p s (legal-tasks p s (S .legal)) k (owner p k) h refl (section-engaged p (taskAt s k) i))
       (idle-section p)
 
@@ -71,7 +73,7 @@ module _ (p : Plan) (s : State) (A : Accepted p) (S : Kept p s) (row : ℕ) wher
     unfolding released
     release-strict e =
         let P = release-passed p s k r e in
-        task-strict p s (S .sized) row k (omega (arith, P .0, A .tasks-most)) (readied (taskAt s k))
+        task-strict p s (S .sized) row k (omega (arith, P .0, A .tasks-most)) (readied (taskAt s k)) (readied-sized (taskAt s k) (held-sized s k))
         (λ v i. (sym (readied-section (taskAt s k) p) ∙ i, readied-last (taskAt s k)))
 
     -- end
@@ -79,13 +81,13 @@ module _ (p : Plan) (s : State) (A : Accepted p) (S : Kept p s) (row : ℕ) wher
     unfolding endedTask
     end-strict e =
         let P = end-passed p s k r e in
-        task-strict p s (S .sized) row k (omega (arith, P .there, A .tasks-most)) idleTask (λ v i. absurd (clash i (idle-section p)))
+        task-strict p s (S .sized) row k (omega (arith, P .there, A .tasks-most)) idleTask idle-sized (λ v i. absurd (clash i (idle-section p)))
 
     -- lock
-    lock-strict : Pressed p s row → refusal p s lock k r ≡ 0 → (t : Task) → strictOf p (withTask s k t) row ≤ strictOf p s row
-    lock-strict B e t =
+    lock-strict : Pressed p s row → refusal p s lock k r ≡ 0 → (t : Task) → length (t .held) ≡ mostHeld → strictOf p (withTask s k t) row ≤ strictOf p s row
+    lock-strict B e t size =
         let P = lock-passed p s k r e in
-        taker-strict B k (running-takes p s A k (P .there) (P .runs)) (P .outside) t
+        taker-strict B k (running-takes p s A k (P .there) (P .runs)) (P .outside) t size
 
     -- nothing is left inside a section where the last resource is given back
     given-back-out : refusal p s unlock k r ≡ 0 → inSection p (givingBack (taskAt s k)) ≡ false
@@ -98,7 +100,7 @@ module _ (p : Plan) (s : State) (A : Accepted p) (S : Kept p s) (row : ℕ) wher
     unlock-local-strict : refusal p s unlock k r ≡ 0 → strictOf p (withTask s k (givingBack (taskAt s k))) row ≤ strictOf p s row
     unlock-local-strict e =
         let P = unlock-passed p s k r e in
-        task-strict p s (S .sized) row k (omega (arith, P .there, A .tasks-most)) (givingBack (taskAt s k)) (λ v i. absurd (clash i (given-back-out e)))
+        task-strict p s (S .sized) row k (omega (arith, P .there, A .tasks-most)) (givingBack (taskAt s k)) (givingBack-sized (taskAt s k) (held-sized s k)) (λ v i. absurd (clash i (given-back-out e)))
 
     -- unlock of a global
     unlock-global-strict : refusal p s unlock k r ≡ 0 → isGlobal p r ≡ true
@@ -106,7 +108,7 @@ module _ (p : Plan) (s : State) (A : Accepted p) (S : Kept p s) (row : ℕ) wher
     unlock-global-strict e g =
         let P = unlock-passed p s k r e in
         let i = holder-section p (taskAt s k) (P .some) ∙ ap (isGlobal p) (P .last) ∙ g in
-        closed-strict p s (S .sized) row k (omega (arith, P .there, A .tasks-most)) (givingBack (taskAt s k))
+        closed-strict p s (S .sized) row k (omega (arith, P .there, A .tasks-most)) (givingBack (taskAt s k)) (givingBack-sized (taskAt s k) (held-sized s k))
         (engaged-others p s (legal-tasks p s (S .legal)) k (owner p k) (P .there) refl (section-engaged p (taskAt s k) i))
         (given-back-out e)
 
@@ -132,8 +134,8 @@ still-strict p s A S row P kind k r n =
     (record {
       kept = le-refl _;
       on-release = release-strict p s A S row k r;
-      on-take = λ e f. lock-strict p s A S row k r P e _;
-      on-wait = λ e g. lock-strict p s A S row k r P e _;
+      on-take = λ e f. lock-strict p s A S row k r P e _ (taking-sized (taskAt s k) r (held-sized s k));
+      on-wait = λ e g. lock-strict p s A S row k r P e _ (waitingFor-sized (taskAt s k) r (held-sized s k));
       on-unlock-local = λ e g. unlock-local-strict p s A S row k r e;
       on-unlock-global = unlock-global-strict p s A S row k r;
       on-end = end-strict p s A S row k r;

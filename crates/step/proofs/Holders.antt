@@ -12,7 +12,7 @@ use Rattle.plan.specs.Plan.{owner, isGlobal, declares, level, takenBefore}
 use Rattle.plan.specs.Ceiling.{globalCeiling}
 use Rattle.plan.specs.Facts.{Accepted}
 use Rattle.plan.proofs.Order.{before-total}
-use Rattle.plan.proofs.Ceiling.{globalCeiling-most, localCeiling-first}
+use Rattle.plan.proofs.CeilingLaws.{globalCeiling-most, localCeiling-first}
 use Rattle.state.specs.declared.Task.{Task}
 use Rattle.state.specs.declared.State.{State}
 use Rattle.state.specs.State.{taskAt, isActive, holds, lastHeld, inSection}

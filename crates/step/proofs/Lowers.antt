@@ -14,7 +14,8 @@ use Rattle.plan.specs.Limits.{mostTasks}
 use Rattle.plan.specs.Plan.{owner, level}
 use Rattle.state.specs.declared.Task.{Task}
 use Rattle.state.specs.declared.State.{State}
-use Rattle.state.specs.State.{taskAt, usedOf, lastHeld, inSection, sectionLeft}
+use lib.ListN.{length}
+use Rattle.state.specs.State.{mostHeld, taskAt, usedOf, lastHeld, inSection, sectionLeft}
 use Rattle.state.specs.Update.{withTask, withUsed}
 use Rattle.state.specs.Sized.{Sized}
 use Rattle.state.proofs.Update.{taskAt-withTask, taskAt-withTask-other, usedOf-withTask, taskAt-withUsed, usedOf-withUsed-other}
@@ -96,7 +97,7 @@ module _ (p : Plan) (s u : State) (k row : ℕ) (others : (j : ℕ) → j ≢ k 
 abbrev pub NoNew : Plan → State → ℕ → ℕ → Task → Type 0
 NoNew p s row k t = level p row < level p (owner p k) → inSection p t ≡ true → (inSection p (taskAt s k) ≡ true) × (lastHeld t ≡ lastHeld (taskAt s k))
 
-module _ (p : Plan) (s : State) (Z : Sized s) (row k : ℕ) (h : k < mostTasks) (t : Task) where
+module _ (p : Plan) (s : State) (Z : Sized s) (row k : ℕ) (h : k < mostTasks) (t : Task) (size : length (t .held) ≡ mostHeld) where
   -- a task replaced that opens no section of larger level
   pub task-strict : NoNew p s row k t → strictOf p (withTask s k t) row ≤ strictOf p s row
   task-strict f =
@@ -105,7 +106,7 @@ module _ (p : Plan) (s : State) (Z : Sized s) (row k : ℕ) (h : k < mostTasks) 
     where
       own : level p row < level p (owner p k) → inSection p (taskAt (withTask s k t) k) ≡ true → Shrunk p s (withTask s k t) k
       own v i =
-          let q = taskAt-withTask s k t Z h in
+          let q = taskAt-withTask s k t Z h size in
           let w = f v (rw q at i) in
           record { inside = w .0; last = ap lastHeld q ∙ w .1; used = le-of-eq (sym (usedOf-withTask s k t (owner p k))) }
 
@@ -117,7 +118,7 @@ module _ (p : Plan) (s : State) (Z : Sized s) (row k : ℕ) (h : k < mostTasks) 
       u = withUsed (withTask s k t) (owner p k) 0
 
       at-k : taskAt u k ≡ t
-      at-k = taskAt-withUsed (withTask s k t) (owner p k) 0 k ∙ taskAt-withTask s k t Z h
+      at-k = taskAt-withUsed (withTask s k t) (owner p k) 0 k ∙ taskAt-withTask s k t Z h size
 
       others : (j : ℕ) → j ≢ k → taskAt u j ≡ taskAt s j
       others j n = taskAt-withUsed (withTask s k t) (owner p k) 0 j ∙ taskAt-withTask-other s k t j n

@@ -19,7 +19,7 @@ use Rattle.state.specs.State.{idleTask, taskAt, inSection}
 use Rattle.state.specs.Update.{withTask, withUsed}
 use Rattle.state.specs.Sized.{Sized}
 use Rattle.state.proofs.Update.{taskAt-past, taskAt-withTask, taskAt-withTask-other, taskAt-withUsed}
-use Rattle.state.proofs.TaskUpdate.{idle-section}
+use Rattle.state.proofs.TaskUpdate.{idle-section, idle-sized}
 use Rattle.state.proofs.Tasks.{section-engaged}
 use Rattle.state.proofs.Parts.{legal-tasks}
 use Rattle.state.proofs.Changed.{engaged-others}
@@ -75,7 +75,7 @@ module _ (p : Plan) (s : State) (A : Accepted p) (S : Kept p s) (k : ℕ) (h : k
       w = rw (taskAt-withUsed (withTask s k idleTask) (owner p k) 0 j) at v
 
       go : (b : Bool) → eqb j k ≡ b → (j ≢ k) × (inSection p (taskAt s j) ≡ true)
-      go true e = absurd (clash (rw (eqb-true j k e, taskAt-withTask s k idleTask (S .sized) (omega (arith, A .tasks-most))) at w) (idle-section p))
+      go true e = absurd (clash (rw (eqb-true j k e, taskAt-withTask s k idleTask (S .sized) (omega (arith, A .tasks-most)) idle-sized) at w) (idle-section p))
       go false e = (eqb-false j k e, rw (taskAt-withTask-other s k idleTask j (eqb-false j k e)) at w)
 
   -- so its subsystem has a section no more

@@ -14,7 +14,7 @@ use Rattle.plan.specs.declared.Plan.{Plan}
 use Rattle.plan.specs.Plan.{owner, level}
 use Rattle.plan.specs.Ceiling.{globalCeiling}
 use Rattle.plan.specs.Admission.{blocking}
-use Rattle.plan.proofs.Blocking.{blocking-at}
+use Rattle.plan.proofs.BlockingLaws.{blocking-at}
 use Rattle.state.specs.declared.State.{State}
 use Rattle.state.specs.State.{taskAt, lastHeld, inSection, sectionLeft}
 use Rattle.state.specs.Facts.{Legal}

@@ -15,6 +15,7 @@ use Rattle.state.specs.declared.State.{State}
 use Rattle.state.specs.State.{mostHeld, taskAt, leftOf, holds, inSection}
 use Rattle.state.specs.Update.{withTask, waitingFor, taking}
 use Rattle.state.specs.Facts.{TaskLegal}
+use Rattle.state.proofs.Update.{held-sized}
 use Rattle.state.proofs.TaskUpdate.{taking-last, taking-section, taking-sized, waitingFor-section, waitingFor-last, waitingFor-sized}
 use Rattle.state.proofs.TaskKept.{taking-legal, waitingFor-legal}
 use Rattle.state.proofs.Tasks.{section-engaged, holds-place, global-section}
@@ -23,7 +24,7 @@ use Rattle.state.proofs.Counts.{SameSection}
 use Rattle.state.proofs.Replaced.{Fits}
 use Rattle.choice.specs.Choice.{chosen}
 use Rattle.choice.proofs.Taken.{Takes, takes-engaged}
-use Rattle.choice.proofs.Choice.{ByLevel, Chosen, by-level, by-holding, nobody, chosen-cases}
+use Rattle.choice.proofs.ChosenFacts.{ByLevel, Chosen, by-level, by-holding, nobody, chosen-cases}
 use Rattle.step.specs.Events.{lengthFitsBudget, withTaken}
 use Rattle.step.proofs.Fitting.{same-crosses, takes-fits, takes-others}
 use Rattle.step.proofs.Kept.{Kept, task-kept, opened-kept}

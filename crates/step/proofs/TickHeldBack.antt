@@ -18,15 +18,15 @@ use Rattle.state.specs.declared.State.{State}
 use Rattle.state.specs.State.{taskAt, usedOf, isWaiting, lastHeld, inSection, sectionLeft}
 use Rattle.state.specs.Update.{withTask, withUsed, started}
 use Rattle.state.specs.Sized.{Sized}
-use Rattle.state.proofs.Update.{taskAt-withTask, taskAt-withTask-other, usedOf-withTask, sized-withTask, taskAt-withUsed, usedOf-withUsed, usedOf-withUsed-other}
-use Rattle.state.proofs.TaskUpdate.{started-section, started-last, started-sized}
+use Rattle.state.proofs.Update.{held-sized, taskAt-withTask, taskAt-withTask-other, usedOf-withTask, sized-withTask, taskAt-withUsed, usedOf-withUsed, usedOf-withUsed-other}
+use Rattle.state.proofs.TaskUpdate.{started-section, started-last, started-sized, taking-sized}
 use Rattle.state.proofs.Tasks.{section-engaged}
 use Rattle.state.proofs.Parts.{legal-tasks}
 use Rattle.state.proofs.Changed.{OthersOutside, engaged-others}
 use Rattle.choice.specs.Choice.{chosen, taken, runs, chosenTask}
 use Rattle.choice.proofs.Taken.{Takes, taken-cases}
 use Rattle.choice.proofs.Running.{runs-going}
-use Rattle.choice.proofs.Choice.{Chosen, by-level, by-holding, nobody, chosen-cases, ByHolding, holder-taken}
+use Rattle.choice.proofs.ChosenFacts.{Chosen, by-level, by-holding, nobody, chosen-cases, ByHolding, holder-taken}
 use Rattle.step.specs.declared.Shut.{Shut}
 use Rattle.step.specs.declared.Outcome.{Outcome}
 use Rattle.step.specs.Events.{lengthFitsBudget, withTaken}
@@ -64,6 +64,7 @@ module _ (p : Plan) (s : State) (Z : Sized s) (row k : ℕ) (there : k < p .task
 
   -- it stands there
   at-k : taskAt (withTask s k t) k ≡ t
+  unfolding t
   at-k = taskAt-withTask s k t Z most (started-sized (taskAt s k) (held-sized s k))
 
   -- outside sections
@@ -186,7 +187,7 @@ module _ (p : Plan) (s : State) (A : Accepted p) (U : Unspent p s) (row : ℕ) (
         where
           go : (b : Bool) → (isWaiting (taskAt s k) && lengthFitsBudget p s k (taskAt s k .waits)) ≡ b
               → strictOf p (elim b [ true ↦ withTaken s k (taskAt s k .waits) | false ↦ s ]) row ≤ strictOf p s row
-          go true e = taker-strict p s A (U .kept) row P k K (U .kept .legal .task k (K .there) .waiting (search conjuncts) .outside) _
+          go true e = taker-strict p s A (U .kept) row P k K (U .kept .legal .task k (K .there) .waiting (search conjuncts) .outside) _ (taking-sized (taskAt s k) _ (held-sized s k))
           go false e = le-refl _
 
   -- a row of larger level that is chosen all the same holds the global at the system ceiling

@@ -20,7 +20,7 @@ use Rattle.state.proofs.Tasks.{section-active}
 use Rattle.state.proofs.Parts.{legal-counts}
 use Rattle.choice.specs.Choice.{chosen, taken, runs, chosenTask}
 use Rattle.choice.proofs.Taken.{Takes, taken-cases}
-use Rattle.choice.proofs.Choice.{Chosen, by-level, by-holding, nobody, chosen-cases, chosen-there, holder-taken}
+use Rattle.choice.proofs.ChosenFacts.{Chosen, by-level, by-holding, nobody, chosen-cases, chosen-there, holder-taken}
 use Rattle.step.specs.declared.Shut.{Shut}
 use Rattle.step.specs.declared.Outcome.{Outcome}
 use Rattle.step.specs.Tick.{isSpent, shutSpent, givenWaited, charged, ran, tickIn, tickIdle, tickAfter, ticked}

@@ -14,12 +14,13 @@ use Rattle.plan.specs.Facts.{Accepted}
 use Rattle.plan.proofs.Order.{before-irrefl}
 use Rattle.state.specs.declared.Task.{Task}
 use Rattle.state.specs.declared.State.{State}
-use Rattle.state.specs.State.{taskAt, usedOf, isWaiting, isActive, holds, lastHeld, inSection, sectionLeft}
+use lib.ListN.{length}
+use Rattle.state.specs.State.{mostHeld, taskAt, usedOf, isWaiting, isActive, holds, lastHeld, inSection, sectionLeft}
 use Rattle.state.specs.Update.{withTask, taking}
 use Rattle.state.specs.Sized.{Sized}
 use Rattle.state.specs.Facts.{WaitLegal}
-use Rattle.state.proofs.Update.{taskAt-past, taskAt-withTask, taskAt-withTask-other, usedOf-withTask}
-use Rattle.state.proofs.TaskUpdate.{idle-waiting, taking-active, taking-last}
+use Rattle.state.proofs.Update.{held-sized, taskAt-past, taskAt-withTask, taskAt-withTask-other, usedOf-withTask}
+use Rattle.state.proofs.TaskUpdate.{idle-waiting, taking-active, taking-last, taking-sized}
 use Rattle.state.proofs.Parts.{legal-tasks}
 use Rattle.state.proofs.Changed.{OthersOutside, all-outside}
 use Rattle.choice.specs.Choice.{chosen, chosenTask}
@@ -43,13 +44,13 @@ unspent-unused p s e i =
     omega arith
 
 -- a task stays the one taken when it is replaced by an active one
-pub takes-after : (p : Plan) (s : State) (c k : ℕ) (t : Task) → Sized s → k < mostTasks → isActive t ≡ true → Takes p (taskAt s) c k → Takes p (taskAt (withTask s k t)) c k
-takes-after p s c k t Z h a K =
+pub takes-after : (p : Plan) (s : State) (c k : ℕ) (t : Task) → Sized s → k < mostTasks → length (t .held) ≡ mostHeld → isActive t ≡ true → Takes p (taskAt s) c k → Takes p (taskAt (withTask s k t)) c k
+takes-after p s c k t Z h size a K =
     record {
       there = K .there;
       owned = K .owned;
       first = λ j l o v. go j l o v (eqb j k) refl;
-      may = inl (rw (taskAt-withTask s k t Z h) a);
+      may = inl (rw (taskAt-withTask s k t Z h size) a);
     }
   where
     go : (j : ℕ) → j < p .tasks → owner p j ≡ c → isActive (taskAt (withTask s k t) j) ≡ true → (b : Bool) → eqb j k ≡ b → takenBefore p j k ≡ false
@@ -98,7 +99,7 @@ module _ (p : Plan) (s : State) (A : Accepted p) (S : Kept p s) (k : ℕ) (K : T
       k-most = omega (arith, K .there, A .tasks-most)
 
       at-k : taskAt (withTask s k (taking (taskAt s k) (taskAt s k .waits))) k ≡ taking (taskAt s k) (taskAt s k .waits)
-      at-k = taskAt-withTask s k (taking (taskAt s k) (taskAt s k .waits)) (S .sized) k-most
+      at-k = taskAt-withTask s k (taking (taskAt s k) (taskAt s k .waits)) (S .sized) k-most (taking-sized (taskAt s k) (taskAt s k .waits) (held-sized s k))
 
       others : OthersOutside p s k (owner p k)
       others j l o n = takes-others p s (legal-tasks p s (S .legal)) k (chosen p s) K j l (o ∙ K .owned) n
@@ -113,6 +114,7 @@ module _ (p : Plan) (s : State) (A : Accepted p) (S : Kept p s) (k : ℕ) (K : T
         kept = granted-kept w f;
         takes =
             takes-after p s (chosen p s) k (taking (taskAt s k) (taskAt s k .waits)) (S .sized) (omega (arith, K .there, A .tasks-most))
+            (taking-sized (taskAt s k) (taskAt s k .waits) (held-sized s k))
             (taking-active (taskAt s k) (taskAt s k .waits)) K;
         unused = granted-unused w;
       }

@@ -16,7 +16,7 @@ use Rattle.plan.specs.Plan.{owner, level, highest}
 use Rattle.plan.specs.Ceiling.{globalCeiling}
 use Rattle.plan.specs.Facts.{Accepted}
 use Rattle.plan.proofs.Order.{level-there, highest-passes, highest-none, highest-first}
-use Rattle.plan.proofs.Ceiling.{globalCeiling-there}
+use Rattle.plan.proofs.CeilingLaws.{globalCeiling-there}
 use Rattle.plan.proofs.Facts.{row-there}
 use Rattle.state.specs.declared.State.{State}
 use Rattle.state.specs.State.{taskAt, leftOf, hasBudget, lastHeld, inSection}
