@@ -3,3 +3,4 @@ pub mod Printed
 pub mod Filled
 pub mod Report
 pub mod Run
+pub mod Before

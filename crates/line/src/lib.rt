@@ -1,3 +1,5 @@
+mod before;
+
 // An event line that was read.
 pub enum Event {
     Known { kind: u32, task: u32, resource: u32 },
