@@ -1,3 +1,5 @@
 pub mod Composed
 pub mod Decimal
 pub mod Digits
+pub mod Fields
+pub mod Rows
