@@ -3,3 +3,4 @@ pub mod Decimal
 pub mod Digits
 pub mod Fields
 pub mod Rows
+pub mod Signs

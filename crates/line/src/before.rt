@@ -46,12 +46,12 @@ pub fn row_before(scratch: &mut [u8], at: usize, row: u8) -> usize
     decimal_before(scratch, at, row as u64)
 }
 
-// A number without its sign. The smallest has no positive counterpart, so one is added before the sign is turned.
+// A number without its sign. The smallest has no positive counterpart, so what lies between it and -1 is counted, and one more.
 fn size_of(number: i64) -> u64
     ensures { λ r. ⌜ r ≡ natAbs number ⌝ }
 {
     if number < 0 {
-        let below = -(number + 1);
+        let below = -1 - number;
         return below as u64 + 1;
     }
     number as u64
