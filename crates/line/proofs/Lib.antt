@@ -4,3 +4,4 @@ pub mod Digits
 pub mod Fields
 pub mod Rows
 pub mod Signs
+pub mod Room

@@ -1,4 +1,5 @@
 mod before;
+mod put;
 
 // An event line that was read.
 pub enum Event {
