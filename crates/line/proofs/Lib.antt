@@ -5,3 +5,4 @@ pub mod Fields
 pub mod Rows
 pub mod Signs
 pub mod Room
+pub mod Spaced

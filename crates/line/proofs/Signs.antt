@@ -67,3 +67,8 @@ signed-plain z f t = go z (rw (toZ-ofZ f) at t)
 pub size-length : (z : ℤ) → SFits w64 z → length (decimal (natAbs z)) ≤ 19
 size-length (pos n) f = decimal-length 18 n (omega (arith, f .sfits))
 size-length (negsuc n) f = decimal-length 18 (suc n) (omega (arith, f .sfits))
+
+pub signed-length : (z : ℤ) → SFits w64 z → length (signed z) ≤ 20
+unfolding signed bytes
+signed-length (pos n) f = omega (arith, size-length (pos n) f)
+signed-length (negsuc n) f = omega (arith, size-length (negsuc n) f)

@@ -4,3 +4,4 @@ pub mod Filled
 pub mod Report
 pub mod Run
 pub mod Before
+pub mod Reported

@@ -6,6 +6,7 @@ ghost use Prim.Native.Nat.{_+_, _≤_, _<_};
 ghost use lib.Dec.{ltb};
 ghost use lib.IntN.{natAbs};
 ghost use lib.ListN.{length};
+ghost use Rattle.text.specs.Bytes.{bytes};
 ghost use Rattle.text.specs.Numbers.{decimal};
 ghost use Rattle.line.specs.Before.{Before, parted, joined};
 ghost use Rattle.line.specs.Printed.{rowText, rowsOnto, endedText};
@@ -124,4 +125,16 @@ pub fn number_field(scratch: &mut [u8], at: usize, number: u64) -> usize
 {
     let i = byte_before(scratch, at, 32);
     decimal_before(scratch, i, number)
+}
+
+// The word plan and the space behind it.
+pub fn plan_field(scratch: &mut [u8], at: usize) -> usize
+    requires { ⌜ (5 ≤ at) × (at ≤ length (now scratch)) ⌝ }
+    ensures { λ r. ⌜ Before (parted (bytes "plan")) (now (scratch .entry)) at (now (scratch .exit)) r ⌝ }
+{
+    let i = byte_before(scratch, at, 32);
+    let i = byte_before(scratch, i, b'n');
+    let i = byte_before(scratch, i, b'a');
+    let i = byte_before(scratch, i, b'l');
+    byte_before(scratch, i, b'p')
 }

@@ -1,5 +1,10 @@
 mod before;
 mod put;
+mod printed;
+
+pub use printed::print;
+pub use printed::print_refusal;
+pub use printed::report_line;
 
 // An event line that was read.
 pub enum Event {
