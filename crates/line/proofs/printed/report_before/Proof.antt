@@ -2,26 +2,27 @@
 use Prim.Native.Nat.{_≤_}
 use native.Mathlib.Omega.{arith}
 use lib.ListN.{length}
+use mir.Facts.{toZ-ofZ}
 use borrow.Author.Needs.{needs}
 use Rattle.text.specs.Numbers.{decimal}
 use Rattle.line.specs.Before.{parted}
 use Rattle.line.specs.Report.{signed}
 use Rattle.line.specs.Reported.{reportText}
-use Rattle.line.proofs.Signs.{signed-length}
+use Rattle.line.proofs.Signs.{read, signed-length}
 use Rattle.line.proofs.Spaced.{field-more, field-last, number-room}
 use Rattle.line.proofs.printed.report_before.Statement.{statement}
 use Rattle.line.proofs.printed.report_before.Tie as tie
 
 -- the room that each field takes
 rooms : (s : tie.Start)
-    → (length (signed (s .args .margin)) ≤ 20)
+    → (length (signed (read (s .args .margin))) ≤ 20)
     × (length (parted (decimal (s .args .demand))) ≤ 21)
     × (length (parted (decimal (s .args .blocking))) ≤ 6)
     × (length (parted (decimal (s .args .budget))) ≤ 6)
     × (length (parted (decimal (s .args .period))) ≤ 6)
     × (length (parted (decimal (s .args .row))) ≤ 4)
 rooms s =
-    (signed-length (s .args .margin) (s .fits .margin),
+    (rw (toZ-ofZ (s .fits .margin)) (signed-length (s .args .margin) (s .fits .margin)),
       number-room 19 (s .args .demand) (omega arith),
       number-room 4 (s .args .blocking) (omega arith),
       number-room 4 (s .args .budget) (omega arith),
@@ -53,10 +54,11 @@ returns c =
     let d = k .before .before .before .before in
     let m = d .before .before .before .before in
     let b = m .before .before .before .before in
+    let s = b .before .before .before in
     field-more _ _ _
     (field-more _ _ _
     (field-more _ _ _
-    (field-more _ _ _ (field-more _ _ _ (field-last (b .byte-before .ensures) (m .signed-before .ensures)) (d .number-field .ensures)) (k .number-field2 .ensures))
+    (field-more _ _ _ (field-more _ _ _ (field-last (b .byte-before .ensures) (rw (toZ-ofZ (s .fits .margin)) at (m .signed-before .ensures))) (d .number-field .ensures)) (k .number-field2 .ensures))
     (u .number-field3 .ensures))
     (p .number-field4 .ensures))
     (r .number-field5 .ensures)

@@ -2,6 +2,7 @@
 use mathlib.Core.Path.{_≡_, refl}
 use Prim.Native.Nat.{_-_}
 use lib.ListN.{take, drop}
+use mir.Facts.{toZ-ofZ}
 use borrow.Author.Needs.{needs}
 use Rattle.line.specs.Reported.{reportText}
 use Rattle.line.proofs.Spaced.{spaced-some, lent}
@@ -12,7 +13,7 @@ use Rattle.line.proofs.printed.report_line.Tie as tie
 line : (c : tie.After-report-before)
     → let a = c .before .before .before .args in
     take (128 - c .report-before .result) (drop (c .report-before .result) (c .report-before .last .0)) ≡ reportText (a .row) (a .period) (a .budget) (a .blocking) (a .demand) (a .margin)
-line c = lent (c .report-before .ensures) refl (c .report-before .kept .0)
+line c = lent (rw (toZ-ofZ (c .before .before .before .fits .margin)) at (c .report-before .ensures)) refl (c .report-before .kept .0)
 
 add-requires : tie.Need-add-requires
 unfolding reportText
