@@ -6,3 +6,5 @@ pub mod Rows
 pub mod Signs
 pub mod Room
 pub mod Spaced
+pub mod Same
+pub mod Names

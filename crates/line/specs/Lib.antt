@@ -5,3 +5,4 @@ pub mod Report
 pub mod Run
 pub mod Before
 pub mod Reported
+pub mod Named

@@ -1,7 +1,9 @@
 mod before;
+mod events;
 mod put;
 mod printed;
 
+pub use events::event_of;
 pub use printed::print;
 pub use printed::print_refusal;
 pub use printed::report_line;
