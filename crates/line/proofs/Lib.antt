@@ -4,7 +4,9 @@ pub mod Digits
 pub mod Fields
 pub mod Rows
 pub mod Signs
-pub mod Room
 pub mod Spaced
+pub mod Parts
+pub mod Room
 pub mod Same
+pub mod Behind
 pub mod Names

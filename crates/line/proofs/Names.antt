@@ -3,19 +3,20 @@ use mathlib.Core.Path.{_≡_, refl, sym, _∙_}
 use mathlib.Core.Bool.{Bool, true, false, _||_}
 use mathlib.Core.List.{List, [], _∷_}
 use mathlib.Core.Option.{Option, none, some}
-use mathlib.Core.Logic.{_⊎_, ⊎-elim}
+use mathlib.Core.Logic.{_⊎_, inl, inr, ⊎-elim}
 use Prim.Native.Nat.{ℕ, suc, _≤_, _<_}
 use native.Mathlib.Omega.{arith}
 use lib.Dec.{eqb}
 use lib.ListN.{length}
-use borrow.Author.Tests.{eq-eqb, ne-eqb}
+use borrow.Author.Tests.{eqb-true, eqb-false, ne-eqb}
 use Rattle.text.specs.Bytes.{bytes, same}
+use Rattle.text.specs.Lines.{fields}
 use Rattle.text.specs.Numbers.{numbers, ofNone, ofOne, ofTwo}
 use Rattle.line.specs.declared.Event.{Event}
 use Rattle.line.specs.declared.Event.the-variants.{Known, Malformed}
 use Rattle.line.specs.Event.{ofName, ofFields}
 use Rattle.line.specs.Named.{kindOf, usesOne, usesTwo, ofKind, made}
-use Rattle.line.proofs.Same.{same-lengths}
+use Rattle.line.proofs.Behind.{tick-rest}
 
 -- the name decides by its kind alone
 pub by-kind : (name ns : List ℕ) → ofName name ns ≡ ofKind (kindOf name) ns
@@ -85,15 +86,57 @@ module _ (name : List ℕ) where
   kind-5 a e t = rw (kindOf, a .0, a .1, a .2, e, t)
 
 -- what a kind makes of its numbers
-module _ (kind : ℕ) (ns : List ℕ) where
-  pub kind-one : (kind ≡ 0) ⊎ (kind ≡ 3) → ofKind kind ns ≡ ofOne Malformed (λ k. Known kind k 0) ns
-  unfolding ofKind usesOne
-  kind-one = ⊎-elim (λ e. rw e) (λ e. rw e)
+module _ (kind : ℕ) where
+  pub kind-one : (kind ≡ 0) ⊎ (kind ≡ 3) → (o : Option (List ℕ)) → made (ofKind kind) o ≡ made (ofOne Malformed (λ k. Known kind k 0)) o
+  unfolding made ofKind usesOne
+  kind-one e none = refl
+  kind-one e (some ns) = ⊎-elim (λ z. rw z) (λ z. rw z) e
 
-  pub kind-two : (kind ≡ 1) ⊎ (kind ≡ 2) → ofKind kind ns ≡ ofTwo Malformed (Known kind) ns
-  unfolding ofKind usesOne usesTwo
-  kind-two = ⊎-elim (λ e. rw e) (λ e. rw e)
+  pub kind-two : (kind ≡ 1) ⊎ (kind ≡ 2) → (o : Option (List ℕ)) → made (ofKind kind) o ≡ made (ofTwo Malformed (Known kind)) o
+  unfolding made ofKind usesOne usesTwo
+  kind-two e none = refl
+  kind-two e (some ns) = ⊎-elim (λ z. rw z) (λ z. rw z) e
 
-  pub kind-tick : kind ≡ 4 → ofKind kind ns ≡ ofNone Malformed (Known 4 0 0) ns
+  -- a tick or no kind at all
+  kind-late : 4 ≤ kind → (ns : List ℕ) → ofKind kind ns ≡ elim (eqb kind 4) [ true ↦ ofNone Malformed (Known 4 0 0) ns | false ↦ Malformed ]
   unfolding ofKind usesOne usesTwo
-  kind-tick e = rw e
+  kind-late h ns =
+      rw
+      (ofKind, ne-eqb kind 0 (λ e. omega arith), ne-eqb kind 3 (λ e. omega arith), ne-eqb kind 1 (λ e. omega arith), ne-eqb kind 2 (λ e. omega arith))
+
+  -- which has rows too many
+  pub kind-rows : 4 ≤ kind → (t : List ℕ) → made (ofKind kind) (numbers (fields t)) ≡ Malformed
+  unfolding made
+  kind-rows h t = go (eqb kind 4) refl (numbers (fields t)) refl
+    where
+      go : (b : Bool) → eqb kind 4 ≡ b → (o : Option (List ℕ)) → numbers (fields t) ≡ o → made (ofKind kind) o ≡ Malformed
+      go b e none q = refl
+      go true e (some ns) q = kind-late h ns ∙ rw e (rw q at (tick-rest (Known 4 0 0) t))
+      go false e (some ns) q = kind-late h ns ∙ rw e
+
+-- a name alone
+pub alone-tick : (kind : ℕ) → kind ≡ 4 → made (ofKind kind) (numbers []) ≡ Known 4 0 0
+unfolding made ofKind usesOne usesTwo numbers ofNone
+alone-tick kind e = rw e
+
+pub alone-other : (kind : ℕ) → (kind ≡ 4 → ⊥) → made (ofKind kind) (numbers []) ≡ Malformed
+unfolding made ofKind usesOne usesTwo numbers ofNone ofOne ofTwo
+alone-other kind n = go (eqb kind 0 || eqb kind 3) (eqb kind 1 || eqb kind 2)
+  where
+    go : (a b : Bool)
+        → elim a [
+            | true ↦ Malformed
+            | false ↦ elim b [ true ↦ Malformed | false ↦ elim (eqb kind 4) [ true ↦ Known 4 0 0 | false ↦ Malformed ] ]
+          ]
+        ≡ Malformed
+    go true b = refl
+    go false true = refl
+    go false false = rw (ne-eqb kind 4 n)
+
+-- of two numbers
+pub one-or-two : (k : ℕ) → (k ≡ 0 → ⊥) → k < 3 → (k ≡ 1) ⊎ (k ≡ 2)
+one-or-two k n h = go (eqb k 1) refl
+  where
+    go : (b : Bool) → eqb k 1 ≡ b → (k ≡ 1) ⊎ (k ≡ 2)
+    go true e = inl (eqb-true k 1 e)
+    go false e = inr (omega (arith, n, eqb-false k 1 e))

@@ -7,11 +7,12 @@ use native.Mathlib.Nat.{zero-add, not-suc-le-zero, le-of-suc-le-suc}
 use native.Mathlib.Omega.{arith}
 use lib.Dec.{leb}
 use lib.ListN.{length, take, drop, getD, set, length-append, length-take, length-drop, drop-of-length-le, take-append-drop}
-use lib.Seq.{take-length, take-all, drop-drop}
+use lib.Seq.{take-length, drop-drop}
 use borrow.Author.Tests.{le-leb, lt-leb, leb-true}
 use Rattle.line.specs.declared.Filled.{Filled}
 use Rattle.line.specs.declared.Filled.the-variants.{Fill, NoRoom}
 use Rattle.line.specs.Filled.{hasRoom, fillAfter, outAfter}
+use Rattle.line.proofs.Parts.{to-end}
 
 -- one byte more is copied
 pub copy-next : (line d : List ℕ) (i : ℕ) → i < length line → length line ≤ length d
@@ -81,22 +82,19 @@ module _ (out : List ℕ) (fill : ℕ) (line : List ℕ) where
 
 -- the same of the tail as it is lent and comes back
 module _ (out : List ℕ) (fill : ℕ) (line : List ℕ) where
-  tail : take (length out - fill) (drop fill out) ≡ drop fill out
-  tail = take-all (length out - fill) (drop fill out) (rw length-drop (omega arith))
-
   -- nothing stands behind the tail
   behind : drop (length out - fill) (drop fill out) ≡ []
   behind = drop-of-length-le (drop fill out) {i = length out - fill} (rw length-drop (omega arith))
 
   pub fill-part : (n : ℕ) → Fill n ≡ fillAfter (take (length out - fill) (drop fill out)) 0 line → Fill (fill + n) ≡ fillAfter out fill line
-  fill-part n e = fill-tail out fill line n (rw tail at e)
+  fill-part n e = fill-tail out fill line n (rw (to-end out fill) at e)
 
   pub none-part : NoRoom ≡ fillAfter (take (length out - fill) (drop fill out)) 0 line → NoRoom ≡ fillAfter out fill line
-  none-part e = none-tail out fill line (rw tail at e)
+  none-part e = none-tail out fill line (rw (to-end out fill) at e)
 
   pub out-part : {ys : List ℕ} → ys ≡ outAfter (take (length out - fill) (drop fill out)) 0 line
       → take fill out ++ (ys ++ drop (length out - fill) (drop fill out)) ≡ outAfter out fill line
-  out-part e = rw (e, behind, append-nil, tail) (out-tail out fill line)
+  out-part e = rw (e, behind, append-nil, to-end out fill) (out-tail out fill line)
 
 -- a whole line is copied
 pub copied : (line d : List ℕ) (i : ℕ) → i ≡ length line → length line ≤ length d → take i line ++ drop i d ≡ outAfter d 0 line

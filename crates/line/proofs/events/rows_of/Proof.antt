@@ -1,30 +1,25 @@
+-- `line::events::rows_of` meets its contract: the kind says how many rows are wanted.
+use mathlib.Core.Path.{_≡_, sym, _∙_}
+use mathlib.Core.Logic.{inl, inr}
+use native.Mathlib.Omega.{arith}
 use borrow.Author.Needs.{needs}
+use Rattle.line.proofs.Behind.{last-row}
+use Rattle.line.proofs.Names.{kind-one, kind-two, kind-rows, one-or-two}
 use Rattle.line.proofs.events.rows_of.Statement.{statement}
 use Rattle.line.proofs.events.rows_of.Tie as tie
-use Rattle.line.proofs.events.rows_of.Reads as reads
-use Rattle.line.proofs.events.rows_of.Lts as lts
-use Rattle.line.proofs.events.one_row.Reads as one-row-reads
-use Rattle.line.proofs.events.two_rows.Reads as two-rows-reads
 
--- src/events.rt:100:18
-one-row-requires : tie.Need-one-row-requires
-one-row-requires c κs = search needs
-
--- src/events.rt:101:18
-two-rows-requires : tie.Need-two-rows-requires
-two-rows-requires c κs = search needs
-
--- src/events.rt:96:1
 returns : tie.Need-returns
-returns c = ?
+returns c = c .one-row .ensures ∙ sym (last-row _ _) ∙ sym (kind-one _ (c .before .match .keys1) _)
 
--- src/events.rt:96:1
 returns-2 : tie.Need-returns-2
-returns-2 c = ?
+returns-2 c =
+    let k = c .before in
+    c .two-rows .ensures ∙ sym (kind-two _ (one-or-two _ (λ e. k .before .match .rest .1 (inl e)) (k .if1 .taken)) _)
 
--- src/events.rt:96:1
 returns-3 : tie.Need-returns-3
-returns-3 c = ?
+returns-3 c =
+    let n : c .before .before .before .args .kind ≡ 3 → ⊥ = λ e. c .before .match .rest .1 (inr e) in
+    sym (kind-rows _ (omega arith) _)
 
 pub rows-of-spec : {M : Type 1} → statement M
-rows-of-spec = tie.close (tie.spec one-row-requires two-rows-requires returns returns-2 returns-3)
+rows-of-spec = tie.close (tie.spec (λ c κs. search needs) (λ c κs. search needs) returns returns-2 returns-3)

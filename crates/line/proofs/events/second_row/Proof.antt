@@ -1,30 +1,15 @@
+-- `line::events::second_row` meets its contract: the rest is a number or not.
+use mathlib.Core.Path.{_≡_, sym, _∙_}
 use borrow.Author.Needs.{needs}
+use Rattle.line.proofs.Behind.{last-not, last-is}
 use Rattle.line.proofs.events.second_row.Statement.{statement}
 use Rattle.line.proofs.events.second_row.Tie as tie
-use Rattle.line.proofs.events.second_row.Reads as reads
-use Rattle.line.proofs.events.second_row.Lts as lts
-use Rattle.text.proofs.number_of.Reads as number-of-reads
 
--- src/events.rt:71:37
-number-of-requires : tie.Need-number-of-requires
-number-of-requires c κs = search needs
-
--- src/events.rt:71:25
-enum-known-resource : tie.Need-enum-known-resource
-enum-known-resource c = search needs
-
--- src/events.rt:72:9
-enum-told : tie.Need-enum-told
-enum-told c = search needs
-
--- src/events.rt:72:9
 returns : tie.Need-returns
-returns c = ?
+returns c = sym (last-not _ _ (sym (c .before .before .number-of .ensures) ∙ c .enum-told .given .1))
 
--- src/events.rt:68:1
 returns-2 : tie.Need-returns-2
-returns-2 c = ?
+returns-2 c = sym (last-is _ _ _ (sym (c .before .before .before .number-of .ensures) ∙ c .before .resource .given .1))
 
 pub second-row-spec : {M : Type 1} → statement M
-second-row-spec =
-    tie.close (tie.spec number-of-requires enum-known-resource enum-told returns returns-2)
+second-row-spec = tie.close (tie.spec (λ c κs. search needs) (λ c. search needs) (λ c. search needs) returns returns-2)

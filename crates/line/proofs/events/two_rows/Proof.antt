@@ -1,78 +1,61 @@
+-- `line::events::two_rows` meets its contract: the first tab parts the rows.
+use mathlib.Core.Path.{_≡_, sym, _∙_}
+use Prim.Native.Nat.{_≤_}
+use native.Mathlib.Omega.{arith}
+use lib.ListN.{length}
 use borrow.Author.Needs.{needs}
+use Rattle.text.specs.Lines.{tab}
+use Rattle.text.proofs.Parted.{Parted}
+use Rattle.line.proofs.Parts.{to-end-next, found-le, found-length, found-there, found-none}
+use Rattle.line.proofs.Behind.{two-whole, two-not, two-is}
 use Rattle.line.proofs.events.two_rows.Statement.{statement}
 use Rattle.line.proofs.events.two_rows.Tie as tie
-use Rattle.line.proofs.events.two_rows.Reads as reads
-use Rattle.line.proofs.events.two_rows.Lts as lts
-use Rattle.line.proofs.events.second_row.Reads as second-row-reads
-use Rattle.text.proofs.find.Reads as find-reads
-use Rattle.text.proofs.number_of.Reads as number-of-reads
 
--- src/events.rt:85:9
-find-requires : tie.Need-find-requires
-find-requires c κs = search needs
+-- there is a tab
+tabbed : (c : tie.Else1) → Parted tab (c .before .before .before .args .rest .now) (c .before .find .result)
+tabbed c = found-there tab _ _ (c .before .find .ensures) (c .if1 .left)
 
--- src/events.rt:87:9
+within : (c : tie.Else1) → c .before .find .result ≤ length (c .before .before .before .args .rest .now)
+within c = found-le tab _ _ (c .before .find .ensures)
+
 returns : tie.Need-returns
-returns c = ?
+returns c = sym (two-whole _ (found-none tab _ _ (c .before .find .ensures) (c .if1 .taken)))
 
--- src/events.rt:89:43
 slice-aggregate-number-of : tie.Need-slice-aggregate-number-of
-slice-aggregate-number-of c = ?
+slice-aggregate-number-of c = found-length tab _ _ (c .before .before .find .ensures)
 
--- src/events.rt:89:33
-number-of-requires : tie.Need-number-of-requires
-number-of-requires c κs = search needs
-
--- src/events.rt:89:25
-enum-known-task : tie.Need-enum-known-task
-enum-known-task c = search needs
-
--- src/events.rt:90:9
-enum-told : tie.Need-enum-told
-enum-told c = search needs
-
--- src/events.rt:90:9
 returns-2 : tie.Need-returns-2
-returns-2 c = ?
+returns-2 c = sym (two-not _ (tabbed (c .before .before .before .before)) (sym (c .before .before .number-of .ensures) ∙ c .enum-told .given .1))
 
--- src/events.rt:92:34
 add-second-row : tie.Need-add-second-row
-add-second-row c = ?
+add-second-row c = omega (arith, within (c .before .before .before .before .before))
 
--- src/events.rt:92:28
 sub-second-row : tie.Need-sub-second-row
-sub-second-row c = ?
+sub-second-row c = omega (arith, within (c .before .before .before .before .before), c .before .before .before .before .before .if1 .left)
 
--- src/events.rt:92:28
 part-second-row-start : tie.Need-part-second-row-start
-part-second-row-start c = ?
+part-second-row-start c = sub-second-row c
 
--- src/events.rt:92:28
-part-second-row-end : tie.Need-part-second-row-end
-part-second-row-end c = search needs
-
--- src/events.rt:92:5
-second-row-requires : tie.Need-second-row-requires
-second-row-requires c κs = search needs
-
--- src/events.rt:82:1
 returns-3 : tie.Need-returns-3
-returns-3 c = ?
+returns-3 c =
+    let k = c .before .before in
+    c .second-row .ensures
+    ∙ rw (to-end-next (k .before .before .before .before .before .before .before .before .args .rest .now) (k .before .before .before .before .before .before .find .result)) (sym (two-is _ (tabbed (k .before .before .before .before .before)) _ (sym (k .before .before .before .number-of .ensures) ∙ k .before .task .given .1)))
 
 pub two-rows-spec : {M : Type 1} → statement M
 two-rows-spec =
     tie.close
     (tie.spec
-    find-requires
+    (λ c κs. search needs)
     returns
     slice-aggregate-number-of
-    number-of-requires
-    enum-known-task
-    enum-told
+    (λ c κs. search needs)
+    (λ c. search needs)
+    (λ c. search needs)
     returns-2
     add-second-row
     sub-second-row
     part-second-row-start
-    part-second-row-end
-    second-row-requires
+    (λ c. search needs)
+    (λ c κs. search needs)
     returns-3)
