@@ -36,11 +36,11 @@ shift-one f n (some (m ∷ ns)) = refl
 
 -- a first field that is a number, or none
 module _ (a : List ℕ) (fs : List (List ℕ)) where
-  numbers-not : number a ≡ Nothing → numbers (a ∷ fs) ≡ none
+  pub numbers-not : number a ≡ Nothing → numbers (a ∷ fs) ≡ none
   unfolding numbers
   numbers-not e = rw (numbers, e)
 
-  numbers-is : (n : ℕ) → number a ≡ Written n → numbers (a ∷ fs) ≡ Option·map (λ ns. n ∷ ns) (numbers fs)
+  pub numbers-is : (n : ℕ) → number a ≡ Written n → numbers (a ∷ fs) ≡ Option·map (λ ns. n ∷ ns) (numbers fs)
   unfolding numbers
   numbers-is n e = rw (numbers, e)
 

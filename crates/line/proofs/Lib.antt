@@ -10,3 +10,5 @@ pub mod Room
 pub mod Same
 pub mod Behind
 pub mod Names
+pub mod Whole
+pub mod Long

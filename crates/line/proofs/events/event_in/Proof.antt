@@ -1,68 +1,60 @@
+-- `line::events::event_in` meets its contract: the first tab ends the name.
+use mathlib.Core.Path.{_≡_, sym, _∙_}
+use Prim.Native.Nat.{_≤_}
+use native.Mathlib.Omega.{arith}
+use lib.ListN.{length}
 use borrow.Author.Needs.{needs}
+use Rattle.text.specs.Lines.{tab}
+use Rattle.line.proofs.Parts.{to-end-next, found-le, found-length, found-there, found-none}
+use Rattle.line.proofs.Names.{alone-tick, alone-other}
+use Rattle.line.proofs.Whole.{read-alone, read-rows}
 use Rattle.line.proofs.events.event_in.Statement.{statement}
 use Rattle.line.proofs.events.event_in.Tie as tie
-use Rattle.line.proofs.events.event_in.Reads as reads
-use Rattle.line.proofs.events.event_in.Lts as lts
-use Rattle.line.proofs.events.kind_of.Reads as kind-of-reads
-use Rattle.line.proofs.events.rows_of.Reads as rows-of-reads
-use Rattle.text.proofs.find.Reads as find-reads
 
--- src/events.rt:110:9
-find-requires : tie.Need-find-requires
-find-requires c κs = search needs
+within : (c : tie.After-find) → c .find .result ≤ length (c .before .before .args .body .now)
+within c = found-le tab _ _ (c .find .ensures)
 
--- src/events.rt:111:24
 slice-aggregate-kind-of : tie.Need-slice-aggregate-kind-of
-slice-aggregate-kind-of c = ?
+slice-aggregate-kind-of c = found-length tab _ _ (c .before .find .ensures)
 
--- src/events.rt:111:9
-kind-of-requires : tie.Need-kind-of-requires
-kind-of-requires c κs = search needs
-
--- src/events.rt:114:13
 returns : tie.Need-returns
-returns c = ?
+returns c =
+    let k = c .before .before in
+    let f = k .before .before in
+    sym (read-alone _ _ _ (k .kind-of .ensures) (found-none tab _ _ (f .find .ensures) (c .before .if1 .taken)) (c .before .if1 .taken) ∙ alone-tick _ (c .if2 .taken))
 
--- src/events.rt:120:9
 returns-2 : tie.Need-returns-2
-returns-2 c = ?
+returns-2 c =
+    let k = c .before .before in
+    let f = k .before .before in
+    sym (read-alone _ _ _ (k .kind-of .ensures) (found-none tab _ _ (f .find .ensures) (c .before .if1 .taken)) (c .before .if1 .taken) ∙ alone-other _ (c .if2 .left))
 
--- src/events.rt:122:25
 add-rows-of : tie.Need-add-rows-of
-add-rows-of c = ?
+add-rows-of c = omega (arith, within (c .before .before .before))
 
--- src/events.rt:122:19
 sub-rows-of : tie.Need-sub-rows-of
-sub-rows-of c = ?
+sub-rows-of c = omega (arith, within (c .before .before .before), c .if1 .left)
 
--- src/events.rt:122:19
-part-rows-of-start : tie.Need-part-rows-of-start
-part-rows-of-start c = ?
-
--- src/events.rt:122:19
-part-rows-of-end : tie.Need-part-rows-of-end
-part-rows-of-end c = search needs
-
--- src/events.rt:122:5
-rows-of-requires : tie.Need-rows-of-requires
-rows-of-requires c κs = search needs
-
--- src/events.rt:107:1
 returns-3 : tie.Need-returns-3
-returns-3 c = ?
+returns-3 c =
+    let i = c .before .before in
+    let k = i .before in
+    let f = k .before .before in
+    c .rows-of .ensures
+    ∙ rw (to-end-next (f .before .before .args .body .now) (f .find .result)) (sym (read-rows _ _ _ (k .kind-of .ensures) (found-there tab _ _ (f .find .ensures) (i .if1 .left))))
 
 pub event-in-spec : {M : Type 1} → statement M
 event-in-spec =
     tie.close
     (tie.spec
-    find-requires
+    (λ c κs. search needs)
     slice-aggregate-kind-of
-    kind-of-requires
+    (λ c κs. search needs)
     returns
     returns-2
     add-rows-of
     sub-rows-of
-    part-rows-of-start
-    part-rows-of-end
-    rows-of-requires
+    sub-rows-of
+    (λ c. search needs)
+    (λ c κs. search needs)
     returns-3)

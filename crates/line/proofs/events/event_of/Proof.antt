@@ -1,47 +1,39 @@
+-- `line::events::event_of` meets its contract: a long line is no event, and the first line feed ends the others.
+use mathlib.Core.Path.{_≡_, sym, _∙_}
+use native.Mathlib.Omega.{arith}
 use borrow.Author.Needs.{needs}
+use Rattle.text.specs.Lines.{lineFeed}
+use Rattle.line.proofs.Parts.{found-le, found-length}
+use Rattle.line.proofs.Whole.{event-line, no-line}
+use Rattle.line.proofs.Long.{long-line}
 use Rattle.line.proofs.events.event_of.Statement.{statement}
 use Rattle.line.proofs.events.event_of.Tie as tie
 use Rattle.line.proofs.events.event_of.Reads as reads
 use Rattle.line.proofs.events.event_of.Lts as lts
-use Rattle.line.proofs.events.event_in.Reads as event-in-reads
-use Rattle.text.proofs.find.Reads as find-reads
 
--- src/events.rt:131:9
 returns : tie.Need-returns
-returns c = ?
+returns c = sym (long-line _ (c .if1 .taken))
 
--- src/events.rt:133:9
-find-requires : tie.Need-find-requires
-find-requires c κs = search needs
-
--- src/events.rt:134:8
 add-if2 : tie.Need-add-if2
-add-if2 c = ?
+add-if2 c = omega (arith, found-le lineFeed _ _ (c .find .ensures))
 
--- src/events.rt:135:9
 returns-2 : tie.Need-returns-2
-returns-2 c = ?
+returns-2 c = sym (no-line _ _ (c .before .find .ensures) (c .if2 .taken))
 
--- src/events.rt:137:14
 slice-aggregate-event-in : tie.Need-slice-aggregate-event-in
-slice-aggregate-event-in c = ?
+slice-aggregate-event-in c = found-length lineFeed _ _ (c .before .before .find .ensures)
 
--- src/events.rt:137:5
-event-in-requires : tie.Need-event-in-requires
-event-in-requires c κs = search needs
-
--- src/events.rt:126:1
 returns-3 : tie.Need-returns-3
-returns-3 c = ?
+returns-3 c = c .event-in .ensures ∙ sym (event-line _ _ (c .before .before .before .find .ensures) (c .before .before .if2 .left))
 
 pub event-of-spec : {M : Type 1} → statement M
 event-of-spec =
     tie.close
     (tie.spec
     returns
-    find-requires
+    (λ c κs. search needs)
     add-if2
     returns-2
     slice-aggregate-event-in
-    event-in-requires
+    (λ c κs. search needs)
     returns-3)
