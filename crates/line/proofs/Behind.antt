@@ -1,9 +1,9 @@
 -- Laws of the rows behind a name: the last row is the rest of the line, whatever tabs it has.
-use mathlib.Core.Path.{_≡_, refl, sym, ap, _∙_}
+use mathlib.Core.Path.{_≡_, refl, sym, _∙_}
 use mathlib.Core.Bool.{Bool, true, false}
 use mathlib.Core.List.{List, [], _∷_}
 use mathlib.Core.Option.{Option, none, some, Option·map}
-use Prim.Native.Nat.{ℕ, suc, _+_, _≤_, _<_}
+use Prim.Native.Nat.{ℕ, suc}
 use lib.Dec.{ltb, eqb}
 use lib.ListN.{length, take, drop}
 use borrow.Author.Tests.{ltb-true, ltb-false}
@@ -15,7 +15,7 @@ use Rattle.text.proofs.Parted.{Parted, Whole, parted, whole}
 use Rattle.text.proofs.Lines.{fields-tab, fields-whole}
 use Rattle.text.proofs.Numbers.{number-tab}
 use Rattle.line.specs.declared.Event.{Event}
-use Rattle.line.specs.declared.Event.the-variants.{Known, Malformed}
+use Rattle.line.specs.declared.Event.the-variants.{Malformed}
 use Rattle.line.specs.Named.{made, lastRow}
 
 -- with one number more in front, one number fewer is wanted
@@ -52,6 +52,7 @@ some-field e a fs = go (number a) refl
     more : (n : ℕ) (o : Option (List ℕ)) → made (ofNone Malformed e) (Option·map (λ ns. n ∷ ns) o) ≡ Malformed
     more n none = refl
     more n (some ns) = refl
+
     go : (x : Number) → number a ≡ x → made (ofNone Malformed e) (numbers (a ∷ fs)) ≡ Malformed
     go Nothing t = rw (numbers-not a fs t)
     go (Written n) t = rw (numbers-is a fs n t) (more n (numbers fs))

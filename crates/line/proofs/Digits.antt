@@ -1,7 +1,7 @@
 -- Digits written one by one, the last first: what is still to write, in front of what stands.
-use mathlib.Core.Path.{_≡_, refl, sym, _∙_}
+use mathlib.Core.Path.{_≡_, _∙_}
 use mathlib.Core.List.{List, [], _∷_, _++_, append-assoc}
-use Prim.Native.Nat.{ℕ, suc, _+_, _/_, _%_, _≤_, _<_}
+use Prim.Native.Nat.{ℕ, _+_, _/_, _%_, _≤_, _<_}
 use native.Mathlib.Omega.{arith}
 use lib.ListN.{length, drop}
 use Rattle.text.specs.Numbers.{decimal}
@@ -21,7 +21,7 @@ module _ {number : ℕ} {old : List ℕ} {at n : ℕ} {new : List ℕ} {i : ℕ}
       record {
         holds = rw (b .holds) (rw (decimal-large n h, append-assoc) at (w .holds));
         place = omega (arith, decimal-longer n h);
-        below = omega arith
+        below = omega arith;
       }
 
   -- the only digit that is left is written

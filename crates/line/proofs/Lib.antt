@@ -12,3 +12,4 @@ pub mod Behind
 pub mod Names
 pub mod Whole
 pub mod Long
+pub mod Reported

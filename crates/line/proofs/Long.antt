@@ -1,9 +1,9 @@
 -- No event line has more than 20 bytes: 7 for the longest name, 5 for a row, at most two rows, and a byte behind each.
-use mathlib.Core.Path.{_≡_, refl, sym, ap, _∙_}
-use mathlib.Core.Bool.{Bool, true, false, _||_}
+use mathlib.Core.Path.{_≡_, refl, ap, _∙_}
+use mathlib.Core.Bool.{Bool, true, false}
 use mathlib.Core.List.{List, [], _∷_}
 use mathlib.Core.Option.{Option, none, some, Option·map}
-use Prim.Native.Nat.{ℕ, zero, suc, _+_, _*_, _≤_, _<_}
+use Prim.Native.Nat.{ℕ, suc, _+_, _*_, _≤_, _<_}
 use native.Mathlib.Omega.{arith}
 use lib.Dec.{eqb, ltb}
 use lib.ListN.{length}
@@ -14,8 +14,7 @@ use Rattle.text.specs.Numbers.{number, numbers, ofNone, ofOne, ofTwo}
 use Rattle.text.specs.declared.Number.{Number}
 use Rattle.text.specs.declared.Number.the-variants.{Written, Nothing}
 use Rattle.text.proofs.Numbers.{number-long}
-use Rattle.line.specs.declared.Event.{Event}
-use Rattle.line.specs.declared.Event.the-variants.{Known, Malformed}
+use Rattle.line.specs.declared.Event.the-variants.{Malformed}
 use Rattle.line.specs.Event.{ofName, ofFields, eventOf}
 use Rattle.line.specs.Named.{kindOf, usesOne, usesTwo, ofKind}
 use Rattle.line.proofs.Same.{same-lengths}
@@ -97,9 +96,11 @@ heavy (name ∷ fs) h = go (numbers fs) refl
     few (n ∷ []) l = absurd (omega arith)
     few (n ∷ m ∷ []) l = absurd (omega arith)
     few (n ∷ m ∷ k ∷ ns) l = rows-many name n m k ns
+
     named : (ns : List ℕ) → numbers fs ≡ some ns → (b : Bool) → ltb 7 (length name) ≡ b → ofName name ns ≡ Malformed
     named ns q true t = name-long name ns (ltb-true 7 (length name) t)
     named ns q false t = few ns (omega (arith, ltb-false 7 (length name) t, numbers-weight fs ns q))
+
     go : (o : Option (List ℕ)) → numbers fs ≡ o → elim o [ none ↦ Malformed | some ns ↦ ofName name ns ] ≡ Malformed
     go none q = refl
     go (some ns) q = named ns q (ltb 7 (length name)) refl

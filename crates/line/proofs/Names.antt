@@ -1,18 +1,16 @@
 -- Laws of an event line's name: its kind, and that the kind says as much as the name.
-use mathlib.Core.Path.{_≡_, refl, sym, _∙_}
+use mathlib.Core.Path.{_≡_, refl, _∙_}
 use mathlib.Core.Bool.{Bool, true, false, _||_}
 use mathlib.Core.List.{List, [], _∷_}
 use mathlib.Core.Option.{Option, none, some}
 use mathlib.Core.Logic.{_⊎_, inl, inr, ⊎-elim}
-use Prim.Native.Nat.{ℕ, suc, _≤_, _<_}
+use Prim.Native.Nat.{ℕ, _≤_, _<_}
 use native.Mathlib.Omega.{arith}
 use lib.Dec.{eqb}
-use lib.ListN.{length}
 use borrow.Author.Tests.{eqb-true, eqb-false, ne-eqb}
 use Rattle.text.specs.Bytes.{bytes, same}
 use Rattle.text.specs.Lines.{fields}
 use Rattle.text.specs.Numbers.{numbers, ofNone, ofOne, ofTwo}
-use Rattle.line.specs.declared.Event.{Event}
 use Rattle.line.specs.declared.Event.the-variants.{Known, Malformed}
 use Rattle.line.specs.Event.{ofName, ofFields}
 use Rattle.line.specs.Named.{kindOf, usesOne, usesTwo, ofKind, made}
@@ -26,18 +24,18 @@ by-kind name ns =
   where
     go : (r l u e t : Bool)
         → elim r [
-            | true ↦ ofOne Malformed (λ k. Known 0 k 0) ns
-            | false ↦ elim l [
-              | true ↦ ofTwo Malformed (Known 1) ns
-              | false ↦ elim u [
-                | true ↦ ofTwo Malformed (Known 2) ns
-                | false ↦ elim e [
-                  | true ↦ ofOne Malformed (λ k. Known 3 k 0) ns
-                  | false ↦ elim t [ true ↦ ofNone Malformed (Known 4 0 0) ns | false ↦ Malformed ]
-                ]
+          | true ↦ ofOne Malformed (λ k. Known 0 k 0) ns
+          | false ↦ elim l [
+            | true ↦ ofTwo Malformed (Known 1) ns
+            | false ↦ elim u [
+              | true ↦ ofTwo Malformed (Known 2) ns
+              | false ↦ elim e [
+                | true ↦ ofOne Malformed (λ k. Known 3 k 0) ns
+                | false ↦ elim t [ true ↦ ofNone Malformed (Known 4 0 0) ns | false ↦ Malformed ]
               ]
             ]
           ]
+        ]
         ≡ ofKind (elim r [ true ↦ 0 | false ↦ elim l [ true ↦ 1 | false ↦ elim u [ true ↦ 2 | false ↦ elim e [ true ↦ 3 | false ↦ elim t [ true ↦ 4 | false ↦ 5 ] ] ] ] ]) ns
     go true l u e t = refl
     go false true u e t = refl
@@ -125,9 +123,9 @@ alone-other kind n = go (eqb kind 0 || eqb kind 3) (eqb kind 1 || eqb kind 2)
   where
     go : (a b : Bool)
         → elim a [
-            | true ↦ Malformed
-            | false ↦ elim b [ true ↦ Malformed | false ↦ elim (eqb kind 4) [ true ↦ Known 4 0 0 | false ↦ Malformed ] ]
-          ]
+          | true ↦ Malformed
+          | false ↦ elim b [ true ↦ Malformed | false ↦ elim (eqb kind 4) [ true ↦ Known 4 0 0 | false ↦ Malformed ] ]
+        ]
         ≡ Malformed
     go true b = refl
     go false true = refl

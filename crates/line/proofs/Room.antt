@@ -1,15 +1,13 @@
 -- Laws of filling the rest of a buffer: when there is room, what stands there then, and that the tail's part is the whole's.
-use mathlib.Core.Path.{_≡_, refl, sym, ap, _∙_}
+use mathlib.Core.Path.{_≡_, refl, ap, _∙_}
 use mathlib.Core.Bool.{Bool, true, false}
 use mathlib.Core.List.{List, [], _∷_, _++_, append-nil}
 use Prim.Native.Nat.{ℕ, zero, suc, _+_, _-_, _≤_, _<_}
 use native.Mathlib.Nat.{zero-add, not-suc-le-zero, le-of-suc-le-suc}
 use native.Mathlib.Omega.{arith}
-use lib.Dec.{leb}
-use lib.ListN.{length, take, drop, getD, set, length-append, length-take, length-drop, drop-of-length-le, take-append-drop}
+use lib.ListN.{length, take, drop, getD, set, length-drop, drop-of-length-le, take-append-drop}
 use lib.Seq.{take-length, drop-drop}
 use borrow.Author.Tests.{le-leb, lt-leb, leb-true}
-use Rattle.line.specs.declared.Filled.{Filled}
 use Rattle.line.specs.declared.Filled.the-variants.{Fill, NoRoom}
 use Rattle.line.specs.Filled.{hasRoom, fillAfter, outAfter}
 use Rattle.line.proofs.Parts.{to-end}

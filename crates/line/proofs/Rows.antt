@@ -2,7 +2,7 @@
 use mathlib.Core.Path.{_≡_, refl, sym, _∙_, subst}
 use mathlib.Core.Bool.{Bool, true, false}
 use mathlib.Core.List.{List, [], _∷_, _++_, append-assoc, append-nil}
-use Prim.Native.Nat.{ℕ, zero, suc, _+_, _-_, _*_, _/_, _%_, _^_, _≤_, _<_}
+use Prim.Native.Nat.{ℕ, suc, _+_, _-_, _*_, _/_, _%_, _^_, _≤_, _<_}
 use native.Mathlib.Omega.{arith}
 use lib.Dec.{ltb}
 use lib.ListN.{length, length-append}
@@ -68,7 +68,7 @@ module _ {set : ℕ} {old : List ℕ} {at k : ℕ} {new : List ℕ} {i : ℕ} (w
         text = joined (k - 1) (ltb i at) ++ w .text;
         stands = then (w .stands) b;
         rest = rw (comma (k - 1) i at (w .text) (w .stands .place)) (sym (onto-in (k - 1) set (w .text) e) ∙ later);
-        short = rw length-append (omega (arith, w .short, joined-short (k - 1) i at (omega arith)))
+        short = rw length-append (omega (arith, w .short, joined-short (k - 1) i at (omega arith)));
       }
 
   -- it is not in the set
@@ -78,7 +78,7 @@ module _ {set : ℕ} {old : List ℕ} {at k : ℕ} {new : List ℕ} {i : ℕ} (w
         text = w .text;
         stands = w .stands;
         rest = sym (onto-out (k - 1) set (w .text) n) ∙ later;
-        short = omega (arith, w .short)
+        short = omega (arith, w .short);
       }
 
 -- all are written

@@ -1,9 +1,9 @@
 -- Laws of a whole event line: its line feed, its name, and what stands behind the name.
-use mathlib.Core.Path.{_≡_, refl, sym, _∙_}
+use mathlib.Core.Path.{_≡_, refl}
 use mathlib.Core.Bool.{Bool, true, false}
 use mathlib.Core.List.{List, [], _∷_}
-use mathlib.Core.Option.{Option, none, some, Option·map}
-use Prim.Native.Nat.{ℕ, suc, _+_, _≤_, _<_}
+use mathlib.Core.Option.{none, some}
+use Prim.Native.Nat.{ℕ, suc, _+_, _<_}
 use native.Mathlib.Nat.{not-suc-le-zero, le-of-suc-le-suc}
 use native.Mathlib.Omega.{arith}
 use lib.Dec.{eqb}
@@ -14,8 +14,7 @@ use Rattle.text.specs.Lines.{tab, lineFeed, until, body, emptyOrNone, fields}
 use Rattle.text.specs.Numbers.{numbers}
 use Rattle.text.proofs.Parted.{Parted, Whole}
 use Rattle.text.proofs.Lines.{body-feed, body-whole, fields-tab, fields-whole}
-use Rattle.line.specs.declared.Event.{Event}
-use Rattle.line.specs.declared.Event.the-variants.{Known, Malformed}
+use Rattle.line.specs.declared.Event.the-variants.{Malformed}
 use Rattle.line.specs.Event.{ofFields, eventOf}
 use Rattle.line.specs.Named.{kindOf, ofKind, made}
 use Rattle.line.proofs.Names.{fields-kind}

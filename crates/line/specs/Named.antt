@@ -1,12 +1,11 @@
 -- How an event line is read: its name to a kind, then the rows that the kind uses.
 use mathlib.Core.Bool.{Bool, true, false, _||_}
-use mathlib.Core.List.{List, [], _∷_}
+use mathlib.Core.List.{List}
 use mathlib.Core.Option.{Option, none, some}
 use Prim.Native.Nat.{ℕ}
 use lib.Dec.{eqb}
 use Rattle.text.specs.Bytes.{bytes, same}
 use Rattle.text.specs.Numbers.{number, ofNone, ofOne, ofTwo}
-use Rattle.text.specs.declared.Number.{Number}
 use Rattle.text.specs.declared.Number.the-variants.{Written, Nothing}
 use Rattle.step.specs.Refusals.{release, lock, unlock, end, tick}
 use Rattle.line.specs.declared.Event.{Event}

@@ -1,8 +1,8 @@
 // "The run program": an event line is a name and exactly the numbers that its kind uses, written and parted as in the plan text.
 use crate::Event;
+use text::Number;
 use text::find;
 use text::number_of;
-use text::Number;
 ghost use mathlib.Core.Path.{_≡_};
 ghost use Rattle.text.specs.Bytes.{same};
 ghost use Rattle.text.specs.Lines.{fields};

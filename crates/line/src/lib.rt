@@ -1,7 +1,7 @@
 mod before;
 mod events;
-mod put;
 mod printed;
+mod put;
 
 pub use events::event_of;
 pub use printed::print;

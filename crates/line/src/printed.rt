@@ -1,5 +1,6 @@
 // "The run program": the printed lines. Each is composed in a scratch of its own, from its last field to its first, and then written behind
 // the fill. The longest has 120 bytes at most: 10 digits, 3, two rows of 3, 32 rows of 2 digits and a comma, 4 spaces and the line feed.
+use crate::Filled;
 use crate::before::byte_before;
 use crate::before::decimal_before;
 use crate::before::ended_before;
@@ -8,7 +9,6 @@ use crate::before::plan_field;
 use crate::before::row_field;
 use crate::before::signed_before;
 use crate::put::add;
-use crate::Filled;
 ghost use mathlib.Core.Path.{_≡_};
 ghost use lib.ListN.{length};
 ghost use Rattle.line.specs.Before.{Before};
@@ -17,7 +17,14 @@ ghost use Rattle.line.specs.Printed.{answerLine, printedRefusal};
 ghost use Rattle.line.specs.Reported.{reportText};
 
 // Event number, answer, subsystem, task, tasks ended, at the scratch's end.
-fn answer_before(scratch: &mut [u8], number: u32, answer: u8, subsystem: u8, task: u8, ended: u32) -> usize
+fn answer_before(
+    scratch: &mut [u8],
+    number: u32,
+    answer: u8,
+    subsystem: u8,
+    task: u8,
+    ended: u32,
+) -> usize
     requires { ⌜ length (now scratch) ≡ 128 ⌝ }
     ensures { λ r. ⌜ Before (answerLine number answer subsystem task ended) (now (scratch .entry)) 128 (now (scratch .exit)) r ⌝ }
 {
@@ -30,11 +37,17 @@ fn answer_before(scratch: &mut [u8], number: u32, answer: u8, subsystem: u8, tas
 }
 
 // The printed line of an event.
-pub fn print(out: &mut [u8], fill: usize, number: u32, answer: u8, subsystem: u8, task: u8, ended: u32) -> Filled
-    ensures {
-      λ r. ⌜ (r ≡ fillAfter (now (out .entry)) fill (answerLine number answer subsystem task ended))
-      × (now (out .exit) ≡ outAfter (now (out .entry)) fill (answerLine number answer subsystem task ended)) ⌝
-    }
+pub fn print(
+    out: &mut [u8],
+    fill: usize,
+    number: u32,
+    answer: u8,
+    subsystem: u8,
+    task: u8,
+    ended: u32,
+) -> Filled
+    ensures { λ r. ⌜ (r ≡ fillAfter (now (out .entry)) fill (answerLine number answer subsystem task ended))
+        × (now (out .exit) ≡ outAfter (now (out .entry)) fill (answerLine number answer subsystem task ended)) ⌝ }
 {
     let mut scratch = [0u8; 128];
     let at = answer_before(&mut scratch, number, answer, subsystem, task, ended);
@@ -54,10 +67,8 @@ fn refusal_before(scratch: &mut [u8], number: u32, beside: u32) -> usize
 
 // The line of a refused plan.
 pub fn print_refusal(out: &mut [u8], fill: usize, number: u32, beside: u32) -> Filled
-    ensures {
-      λ r. ⌜ (r ≡ fillAfter (now (out .entry)) fill (printedRefusal number beside))
-      × (now (out .exit) ≡ outAfter (now (out .entry)) fill (printedRefusal number beside)) ⌝
-    }
+    ensures { λ r. ⌜ (r ≡ fillAfter (now (out .entry)) fill (printedRefusal number beside))
+        × (now (out .exit) ≡ outAfter (now (out .entry)) fill (printedRefusal number beside)) ⌝ }
 {
     let mut scratch = [0u8; 128];
     let at = refusal_before(&mut scratch, number, beside);
@@ -75,9 +86,7 @@ fn report_before(
     margin: i64,
 ) -> usize
     requires { ⌜ length (now scratch) ≡ 128 ⌝ }
-    ensures {
-      λ r. ⌜ Before (reportText row period budget blocking demand margin) (now (scratch .entry)) 128 (now (scratch .exit)) r ⌝
-    }
+    ensures { λ r. ⌜ Before (reportText row period budget blocking demand margin) (now (scratch .entry)) 128 (now (scratch .exit)) r ⌝ }
 {
     let at = byte_before(scratch, 128, 10);
     let at = signed_before(scratch, at, margin);
@@ -99,10 +108,8 @@ pub fn report_line(
     demand: u64,
     margin: i64,
 ) -> Filled
-    ensures {
-      λ r. ⌜ (r ≡ fillAfter (now (out .entry)) fill (reportText row period budget blocking demand margin))
-      × (now (out .exit) ≡ outAfter (now (out .entry)) fill (reportText row period budget blocking demand margin)) ⌝
-    }
+    ensures { λ r. ⌜ (r ≡ fillAfter (now (out .entry)) fill (reportText row period budget blocking demand margin))
+        × (now (out .exit) ≡ outAfter (now (out .entry)) fill (reportText row period budget blocking demand margin)) ⌝ }
 {
     let mut scratch = [0u8; 128];
     let at = report_before(&mut scratch, row, period, budget, blocking, demand, margin);

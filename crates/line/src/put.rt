@@ -7,10 +7,8 @@ ghost use Rattle.line.specs.Filled.{fillAfter, outAfter};
 
 // Copies a line to the front of the rest, unless it is longer, and reports how much of the rest is filled.
 fn put(rest: &mut [u8], line: &[u8]) -> Filled
-    ensures {
-      λ r. ⌜ (r ≡ fillAfter (now (rest .entry)) 0 (now (line .entry)))
-      × (now (rest .exit) ≡ outAfter (now (rest .entry)) 0 (now (line .entry))) ⌝
-    }
+    ensures { λ r. ⌜ (r ≡ fillAfter (now (rest .entry)) 0 (now (line .entry)))
+        × (now (rest .exit) ≡ outAfter (now (rest .entry)) 0 (now (line .entry))) ⌝ }
 {
     let n = line.len();
     if rest.len() < n {
@@ -27,10 +25,8 @@ fn put(rest: &mut [u8], line: &[u8]) -> Filled
 // The line behind what is filled. A fill past the end leaves no rest.
 pub fn add(out: &mut [u8], fill: usize, line: &[u8]) -> Filled
     requires { ⌜ 1 ≤ length (now line) ⌝ }
-    ensures {
-      λ r. ⌜ (r ≡ fillAfter (now (out .entry)) fill (now (line .entry)))
-      × (now (out .exit) ≡ outAfter (now (out .entry)) fill (now (line .entry))) ⌝
-    }
+    ensures { λ r. ⌜ (r ≡ fillAfter (now (out .entry)) fill (now (line .entry)))
+        × (now (out .exit) ≡ outAfter (now (out .entry)) fill (now (line .entry))) ⌝ }
 {
     if out.len() < fill {
         return Filled::NoRoom;

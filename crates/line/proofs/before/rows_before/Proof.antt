@@ -3,7 +3,6 @@ use mathlib.Core.Path.{_≡_, refl}
 use Prim.Native.Nat.{_≤_}
 use native.Mathlib.Omega.{arith}
 use lib.ListN.{length}
-use borrow.Author.Needs.{needs}
 use Rattle.line.proofs.Rows.{Rows, rows-first, row-in, row-out, rows-last}
 use Rattle.line.proofs.before.rows_before.Statement.{statement}
 use Rattle.line.proofs.before.rows_before.Tie as tie

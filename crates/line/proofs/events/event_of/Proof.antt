@@ -1,5 +1,5 @@
 -- `line::events::event_of` meets its contract: a long line is no event, and the first line feed ends the others.
-use mathlib.Core.Path.{_≡_, sym, _∙_}
+use mathlib.Core.Path.{sym, _∙_}
 use native.Mathlib.Omega.{arith}
 use borrow.Author.Needs.{needs}
 use Rattle.text.specs.Lines.{lineFeed}
@@ -8,8 +8,6 @@ use Rattle.line.proofs.Whole.{event-line, no-line}
 use Rattle.line.proofs.Long.{long-line}
 use Rattle.line.proofs.events.event_of.Statement.{statement}
 use Rattle.line.proofs.events.event_of.Tie as tie
-use Rattle.line.proofs.events.event_of.Reads as reads
-use Rattle.line.proofs.events.event_of.Lts as lts
 
 returns : tie.Need-returns
 returns c = sym (long-line _ (c .if1 .taken))

@@ -1,17 +1,13 @@
 -- `line::events::is_same` meets its contract. The loop's invariant: what is left is the same where the whole is. The measure is what is left.
 use mathlib.Core.Path.{_≡_, refl, sym, _∙_}
-use mathlib.Core.Bool.{true}
 use Prim.Native.Nat.{_-_, _≤_}
 use native.Mathlib.Numerals.{add-one}
 use native.Mathlib.Omega.{arith}
 use lib.ListN.{length, drop}
-use borrow.Author.Needs.{needs}
 use Rattle.text.specs.Bytes.{same}
 use Rattle.line.proofs.Same.{same-lengths, same-on, same-not, same-end}
 use Rattle.line.proofs.events.is_same.Statement.{statement}
 use Rattle.line.proofs.events.is_same.Tie as tie
-use Rattle.line.proofs.events.is_same.Reads as reads
-use Rattle.line.proofs.events.is_same.Lts as lts
 
 abbrev Inv-loop : tie.InvT-loop
 Inv-loop a b i₀ i = (same (drop i a) (drop i b) ≡ same a b) × (i ≤ length a)

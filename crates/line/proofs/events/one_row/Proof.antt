@@ -1,5 +1,5 @@
 -- `line::events::one_row` meets its contract: the rest is a number or not.
-use mathlib.Core.Path.{_≡_, sym, _∙_}
+use mathlib.Core.Path.{sym, _∙_}
 use borrow.Author.Needs.{needs}
 use Rattle.line.proofs.Behind.{last-not, last-is}
 use Rattle.line.proofs.events.one_row.Statement.{statement}

@@ -23,9 +23,14 @@ number-field-requires-2 : tie.Need-number-field-requires-2
 number-field-requires-2 c κs =
     let t = c .before .before .before .before .before .before .before .before .before .before .before in
     let s = t .before .before .before .before .before .before .before .before .before .before .before in
-    omega
-    (arith, row-room (s .args .task) (omega arith), row-room (s .args .subsystem) (omega arith), number-room 2 (s .args .answer) (omega arith),
-      number-room 9 (s .args .number) (omega arith), t .before .before .before .before)
+    omega (
+      arith,
+      row-room (s .args .task) (omega arith),
+      row-room (s .args .subsystem) (omega arith),
+      number-room 2 (s .args .answer) (omega arith),
+      number-room 9 (s .args .number) (omega arith),
+      t .before .before .before .before,
+    )
 
 returns : tie.Need-returns
 unfolding answerLine

@@ -21,13 +21,14 @@ rooms : (s : tie.Start)
     × (length (parted (decimal (s .args .budget))) ≤ 6)
     × (length (parted (decimal (s .args .period))) ≤ 6)
     × (length (parted (decimal (s .args .row))) ≤ 4)
-rooms s =
-    (rw (toZ-ofZ (s .fits .margin)) (signed-length (s .args .margin) (s .fits .margin)),
-      number-room 19 (s .args .demand) (omega arith),
-      number-room 4 (s .args .blocking) (omega arith),
-      number-room 4 (s .args .budget) (omega arith),
-      number-room 4 (s .args .period) (omega arith),
-      number-room 2 (s .args .row) (omega arith))
+rooms s = (
+  rw (toZ-ofZ (s .fits .margin)) (signed-length (s .args .margin) (s .fits .margin)),
+  number-room 19 (s .args .demand) (omega arith),
+  number-room 4 (s .args .blocking) (omega arith),
+  number-room 4 (s .args .budget) (omega arith),
+  number-room 4 (s .args .period) (omega arith),
+  number-room 2 (s .args .row) (omega arith),
+)
 
 number-field-requires : tie.Need-number-field-requires
 number-field-requires c κs = omega (arith, rooms (c .before .before .before .before .before .before .before .before .before .before))

@@ -6,9 +6,8 @@ use native.Mathlib.Nat.{zero-add}
 use native.Mathlib.Numerals.{add-one}
 use native.Mathlib.Omega.{arith}
 use lib.ListN.{length, take, drop, length-set}
-use borrow.Author.Needs.{needs}
 use Rattle.line.specs.declared.Filled.the-variants.{Fill}
-use Rattle.line.proofs.Room.{copy-next, copied, fill-room, out-room, fill-none, out-none}
+use Rattle.line.proofs.Room.{copy-next, copied, fill-room, fill-none, out-none}
 use Rattle.line.proofs.put.put.Statement.{statement}
 use Rattle.line.proofs.put.put.Tie as tie
 
@@ -29,17 +28,19 @@ loop-holds c = (refl, omega arith, refl)
 loop-again : tie.Need-loop-again Inv-loop μ-loop
 loop-again c =
     let l = c .before .before .loop in
-    let a = c .before .before .before .before .args in
-    (rw (l .inv .0, add-one) (copy-next (a .line .now) (a .rest .now) (l .i) (omega arith) (omega arith)),
+    let a = c .before .before .before .before .args in (
+      rw (l .inv .0, add-one) (copy-next (a .line .now) (a .rest .now) (l .i) (omega arith) (omega arith)),
       omega arith,
-      length-set (l .rest) (l .i) _ ∙ l .inv .2)
+      length-set (l .rest) (l .i) _ ∙ l .inv .2,
+    )
 
 returns-2 : tie.Need-returns-2 Inv-loop μ-loop
 returns-2 c =
     let l = c .before .loop in
-    let a = c .before .before .before .args in
-    (ap Fill (sym (zero-add (length (a .line .now)))) ∙ sym (fill-room (a .rest .now) 0 (a .line .now) (omega arith)),
-      l .inv .0 ∙ copied (a .line .now) (a .rest .now) (l .i) (omega arith) (omega arith))
+    let a = c .before .before .before .args in (
+      ap Fill (sym (zero-add (length (a .line .now)))) ∙ sym (fill-room (a .rest .now) 0 (a .line .now) (omega arith)),
+      l .inv .0 ∙ copied (a .line .now) (a .rest .now) (l .i) (omega arith) (omega arith),
+    )
 
 pub put-spec : {M : Type 1} → statement M
 put-spec =
