@@ -16,17 +16,21 @@ pub record Written (number : ℕ) (old : List ℕ) (at n : ℕ) (new : List ℕ)
 
 module _ {number : ℕ} {old : List ℕ} {at n : ℕ} {new : List ℕ} {i : ℕ} (w : Written number old at n new i) where
   -- the last digit of a larger number is written
-  pub digit-next : {s : List ℕ} {r : ℕ} → 10 ≤ n → Before ((48 + n % 10) ∷ []) new i s r → Written number old at (n / 10) s r
-  digit-next h b =
-      record {
-        holds = rw (b .holds) (rw (decimal-large n h, append-assoc) at (w .holds));
+  pub digit-next : {s : List ℕ} {r d m : ℕ} → 10 ≤ n → d ≡ 48 + n % 10 → m ≡ n / 10 → Before (d ∷ []) new i s r → Written number old at m s r
+  digit-next h e f b = rw f (go (rw e at b))
+    where
+      go : {s : List ℕ} {r : ℕ} → Before ((48 + n % 10) ∷ []) new i s r → Written number old at (n / 10) s r
+      go b =
+          record {
+            holds = rw (b .holds) (rw (decimal-large n h, append-assoc) at (w .holds));
         place = omega (arith, decimal-longer n h);
         below = omega arith;
       }
 
   -- the only digit that is left is written
-  pub digit-last : {s : List ℕ} {r : ℕ} → n < 10 → Before ((48 + n) ∷ []) new i s r → Before (decimal number) old at s r
-  digit-last h b = record { place = omega (arith, decimal-one n h); holds = b .holds ∙ rw (decimal-small n h) at (w .holds) }
+  pub digit-last : {s : List ℕ} {r d : ℕ} → n < 10 → d ≡ 48 + n → Before (d ∷ []) new i s r → Before (decimal number) old at s r
+  digit-last h e b =
+      record { place = omega (arith, decimal-one n h); holds = b .holds ∙ rw e (rw (decimal-small n h) at (w .holds)) }
 
   -- there is room for a digit
   pub digit-room : length (decimal number) ≤ at → 1 ≤ i

@@ -7,7 +7,7 @@ use native.Mathlib.Nat.{zero-add, not-suc-le-zero, le-of-suc-le-suc}
 use native.Mathlib.Omega.{arith}
 use lib.ListN.{length, take, drop, getD, set, length-drop, drop-of-length-le, take-append-drop}
 use lib.Seq.{take-length, drop-drop}
-use borrow.Author.Tests.{le-leb, lt-leb, leb-true}
+use borrow.Author.Tests.{leb-true, leb-false}
 use Rattle.line.specs.declared.Filled.the-variants.{Fill, NoRoom}
 use Rattle.line.specs.Filled.{hasRoom, fillAfter, outAfter}
 use Rattle.line.proofs.Parts.{to-end}
@@ -22,21 +22,37 @@ copy-next (x ∷ xs) (y ∷ ys) (suc i) h l = ap (λ (t : List ℕ). x ∷ t) (c
 
 -- a line that fits, and one that is longer
 module _ (out : List ℕ) (fill : ℕ) (line : List ℕ) where
+  room : length line ≤ length (drop fill out) → hasRoom out fill line ≡ true
+  unfolding hasRoom
+  room h = go (hasRoom out fill line) refl
+    where
+      go : (b : Bool) → hasRoom out fill line ≡ b → hasRoom out fill line ≡ true
+      go true t = t
+      go false t = absurd (omega (arith, leb-false))
+
+  no-room : length (drop fill out) < length line → hasRoom out fill line ≡ false
+  unfolding hasRoom
+  no-room h = go (hasRoom out fill line) refl
+    where
+      go : (b : Bool) → hasRoom out fill line ≡ b → hasRoom out fill line ≡ false
+      go true t = absurd (omega (arith, leb-true))
+      go false t = t
+
   pub fill-room : length line ≤ length (drop fill out) → fillAfter out fill line ≡ Fill (fill + length line)
-  unfolding fillAfter hasRoom
-  fill-room h = rw (fillAfter, hasRoom, le-leb _ _ h)
+  unfolding fillAfter
+  fill-room h = rw (fillAfter, room h)
 
   pub out-room : length line ≤ length (drop fill out) → outAfter out fill line ≡ take fill out ++ (line ++ drop (fill + length line) out)
-  unfolding outAfter hasRoom
-  out-room h = rw (outAfter, hasRoom, le-leb _ _ h)
+  unfolding outAfter
+  out-room h = rw (outAfter, room h)
 
   pub fill-none : length (drop fill out) < length line → fillAfter out fill line ≡ NoRoom
-  unfolding fillAfter hasRoom
-  fill-none h = rw (fillAfter, hasRoom, lt-leb _ _ h)
+  unfolding fillAfter
+  fill-none h = rw (fillAfter, no-room h)
 
   pub out-none : length (drop fill out) < length line → outAfter out fill line ≡ out
-  unfolding outAfter hasRoom
-  out-none h = rw (outAfter, hasRoom, lt-leb _ _ h)
+  unfolding outAfter
+  out-none h = rw (outAfter, no-room h)
 
   -- the tail has room for it when the whole has
   pub fill-tail : (n : ℕ) → Fill n ≡ fillAfter (drop fill out) 0 line → Fill (fill + n) ≡ fillAfter out fill line

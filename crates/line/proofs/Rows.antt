@@ -51,8 +51,8 @@ joined-short n i at h = go (ltb i at)
     go false = omega (arith, decimal-length 1 n (omega arith))
 
 -- none stands yet, and all are to come
-pub rows-first : (set : ℕ) (old : List ℕ) (at : ℕ) → Rows set old at 32 old at
-rows-first set old at = record { text = []; stands = record { place = omega arith; holds = refl }; rest = refl; short = omega arith }
+pub rows-first : (set : ℕ) (old : List ℕ) (at k : ℕ) → k ≡ 32 → Rows set old at k old at
+rows-first set old at k e = rw e (record { text = []; stands = record { place = omega arith; holds = refl }; rest = refl; short = omega arith })
 
 module _ {set : ℕ} {old : List ℕ} {at k : ℕ} {new : List ℕ} {i : ℕ} (w : Rows set old at k new i) (some : 1 ≤ k) where
   later : rowsOnto (suc (k - 1)) set (w .text) ≡ rowsOnto 32 set []

@@ -26,7 +26,7 @@ loop-less c = omega arith
 loop-again : tie.Need-loop-again Inv-loop μ-loop
 loop-again c =
     let b = c .before .before in
-    (digit-next (b .before .before .before .loop .inv .0) (omega arith) (b .byte-before .ensures), omega (arith, b .byte-before .kept .0))
+    (digit-next (b .before .before .before .loop .inv .0) (omega arith) (omega arith) (omega arith) (b .byte-before .ensures), omega (arith, b .byte-before .kept .0))
 
 byte-before-requires-2 : tie.Need-byte-before-requires-2 Inv-loop μ-loop
 byte-before-requires-2 c κs = (digit-room (c .before .before .loop .inv .0) (omega arith), omega arith)
@@ -37,7 +37,7 @@ same-length c = omega (arith, c .before .before .byte-before2 .kept .0)
 returns : tie.Need-returns Inv-loop μ-loop
 returns c =
     let b = c .before .before in
-    digit-last (b .before .before .before .loop .inv .0) (omega arith) (b .byte-before2 .ensures)
+    digit-last (b .before .before .before .loop .inv .0) (omega arith) (omega arith) (b .byte-before2 .ensures)
 
 pub decimal-before-spec : {M : Type 1} → statement M
 decimal-before-spec =

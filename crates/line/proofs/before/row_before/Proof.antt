@@ -9,7 +9,7 @@ use Rattle.line.proofs.before.row_before.Tie as tie
 returns : tie.Need-returns
 returns c =
     let b = c .before .before .before .before in
-    rw (row-none (b .before .before .args .row) (b .if1 .taken)) (c .before .before .byte-before .ensures)
+    rw (row-none (b .before .before .args .row) (omega arith)) (c .before .before .byte-before .ensures)
 
 decimal-before-requires : tie.Need-decimal-before-requires
 decimal-before-requires c κs = omega (arith, decimal-length 2 (c .before .before .before .args .row) (omega arith))
@@ -17,7 +17,7 @@ decimal-before-requires c κs = omega (arith, decimal-length 2 (c .before .befor
 returns-2 : tie.Need-returns-2
 returns-2 c =
     let b = c .before .before .before .before in
-    rw (row-some (b .before .before .args .row) (b .if1 .left)) (c .before .before .decimal-before .ensures)
+    rw (row-some (b .before .before .args .row) (λ e. omega (arith, b .if1 .left))) (c .before .before .decimal-before .ensures)
 
 pub row-before-spec : {M : Type 1} → statement M
 row-before-spec =

@@ -14,7 +14,7 @@ abbrev μ-loop : tie.MeasureT-loop
 μ-loop scratch₀ at set i₀ row₀ scratch i row = row
 
 loop-holds : tie.Need-loop-holds Inv-loop μ-loop
-loop-holds c = (rows-first _ _ _, omega arith, refl)
+loop-holds c = (rows-first _ _ _ _ (omega arith), omega arith, refl)
 
 joined-before-requires : tie.Need-joined-before-requires Inv-loop μ-loop
 joined-before-requires c κs =

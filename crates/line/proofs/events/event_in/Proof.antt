@@ -21,13 +21,13 @@ returns : tie.Need-returns
 returns c =
     let k = c .before .before in
     let f = k .before .before in
-    sym (read-alone _ _ _ (k .kind-of .ensures) (found-none tab _ _ (f .find .ensures) (c .before .if1 .taken)) (c .before .if1 .taken) ∙ alone-tick _ (c .if2 .taken))
+    sym (read-alone _ _ _ (k .kind-of .ensures) (found-none tab _ _ (f .find .ensures) (c .before .if1 .taken)) (c .before .if1 .taken) ∙ alone-tick _ (omega arith))
 
 returns-2 : tie.Need-returns-2
 returns-2 c =
     let k = c .before .before in
     let f = k .before .before in
-    sym (read-alone _ _ _ (k .kind-of .ensures) (found-none tab _ _ (f .find .ensures) (c .before .if1 .taken)) (c .before .if1 .taken) ∙ alone-other _ (c .if2 .left))
+    sym (read-alone _ _ _ (k .kind-of .ensures) (found-none tab _ _ (f .find .ensures) (c .before .if1 .taken)) (c .before .if1 .taken) ∙ alone-other _ (λ e. omega (arith, c .if2 .left)))
 
 add-rows-of : tie.Need-add-rows-of
 add-rows-of c = omega (arith, within (c .before .before .before))

@@ -10,19 +10,19 @@ use Rattle.line.proofs.events.event_of.Statement.{statement}
 use Rattle.line.proofs.events.event_of.Tie as tie
 
 returns : tie.Need-returns
-returns c = sym (long-line _ (c .if1 .taken))
+returns c = sym (long-line _ (omega arith))
 
 add-if2 : tie.Need-add-if2
 add-if2 c = omega (arith, found-le lineFeed _ _ (c .find .ensures))
 
 returns-2 : tie.Need-returns-2
-returns-2 c = sym (no-line _ _ (c .before .find .ensures) (c .if2 .taken))
+returns-2 c = sym (no-line _ _ (c .before .find .ensures) (λ e. omega arith))
 
 slice-aggregate-event-in : tie.Need-slice-aggregate-event-in
 slice-aggregate-event-in c = found-length lineFeed _ _ (c .before .before .find .ensures)
 
 returns-3 : tie.Need-returns-3
-returns-3 c = c .event-in .ensures ∙ sym (event-line _ _ (c .before .before .before .find .ensures) (c .before .before .if2 .left))
+returns-3 c = c .event-in .ensures ∙ sym (event-line _ _ (c .before .before .before .find .ensures) (omega (arith, found-le lineFeed _ _ (c .before .before .before .find .ensures))))
 
 pub event-of-spec : {M : Type 1} → statement M
 event-of-spec =

@@ -1,6 +1,7 @@
 -- `line::events::kind_of` meets its contract: each test in its turn.
 use mathlib.Core.Path.{_≡_, sym, _∙_}
 use mathlib.Core.Bool.{false}
+use native.Mathlib.Omega.{arith}
 use borrow.Author.Needs.{needs}
 use Rattle.text.specs.Bytes.{bytes, same}
 use Rattle.line.proofs.Names.{kind-0, kind-1, kind-2, Late, kind-3, kind-4, kind-5}
@@ -27,27 +28,27 @@ no-end c = sym (c .before .is-same4 .ensures) ∙ c .if4 .left
 
 returns : tie.Need-returns
 unfolding bytes
-returns c = kind-0 _ (sym (c .before .is-same .ensures) ∙ c .if1 .taken)
+returns c = omega (arith, kind-0 _ (sym (c .before .is-same .ensures) ∙ c .if1 .taken))
 
 returns-2 : tie.Need-returns-2
 unfolding bytes
-returns-2 c = kind-1 _ (no-release (c .before .before .before)) (sym (c .before .is-same2 .ensures) ∙ c .if2 .taken)
+returns-2 c = omega (arith, kind-1 _ (no-release (c .before .before .before)) (sym (c .before .is-same2 .ensures) ∙ c .if2 .taken))
 
 returns-3 : tie.Need-returns-3
 unfolding bytes
-returns-3 c = kind-2 _ (no-release (c .before .before .before .before .before .before)) (no-lock (c .before .before .before)) (sym (c .before .is-same3 .ensures) ∙ c .if3 .taken)
+returns-3 c = omega (arith, kind-2 _ (no-release (c .before .before .before .before .before .before)) (no-lock (c .before .before .before)) (sym (c .before .is-same3 .ensures) ∙ c .if3 .taken))
 
 returns-4 : tie.Need-returns-4
 unfolding bytes
-returns-4 c = kind-3 _ (late (c .before .before .before)) (sym (c .before .is-same4 .ensures) ∙ c .if4 .taken)
+returns-4 c = omega (arith, kind-3 _ (late (c .before .before .before)) (sym (c .before .is-same4 .ensures) ∙ c .if4 .taken))
 
 returns-5 : tie.Need-returns-5
 unfolding bytes
-returns-5 c = kind-4 _ (late (c .before .before .before .before .before .before)) (no-end (c .before .before .before)) (sym (c .before .is-same5 .ensures) ∙ c .if5 .taken)
+returns-5 c = omega (arith, kind-4 _ (late (c .before .before .before .before .before .before)) (no-end (c .before .before .before)) (sym (c .before .is-same5 .ensures) ∙ c .if5 .taken))
 
 returns-6 : tie.Need-returns-6
 unfolding bytes
-returns-6 c = kind-5 _ (late (c .before .before .before .before .before .before)) (no-end (c .before .before .before)) (sym (c .before .is-same5 .ensures) ∙ c .if5 .left)
+returns-6 c = omega (arith, kind-5 _ (late (c .before .before .before .before .before .before)) (no-end (c .before .before .before)) (sym (c .before .is-same5 .ensures) ∙ c .if5 .left))
 
 pub kind-of-spec : {M : Type 1} → statement M
 kind-of-spec =
