@@ -23,9 +23,9 @@ module _ {number : ℕ} {old : List ℕ} {at n : ℕ} {new : List ℕ} {i : ℕ}
       go b =
           record {
             holds = rw (b .holds) (rw (decimal-large n h, append-assoc) at (w .holds));
-        place = omega (arith, decimal-longer n h);
-        below = omega arith;
-      }
+            place = omega (arith, decimal-longer n h);
+            below = omega arith;
+          }
 
   -- the only digit that is left is written
   pub digit-last : {s : List ℕ} {r d : ℕ} → n < 10 → d ≡ 48 + n → Before (d ∷ []) new i s r → Before (decimal number) old at s r
