@@ -30,10 +30,10 @@ pub fn decimal_before(scratch: &mut [u8], at: usize, number: u64) -> usize
     let mut n = number;
     let mut i = at;
     while 9 < n {
-        i = byte_before(scratch, i, 48 + (n % 10) as u8);
+        i = byte_before(scratch, i, b'0' + (n % 10) as u8);
         n /= 10;
     }
-    byte_before(scratch, i, 48 + n as u8)
+    byte_before(scratch, i, b'0' + n as u8)
 }
 
 // A row in front, or a dash for none.
@@ -42,7 +42,7 @@ pub fn row_before(scratch: &mut [u8], at: usize, row: u8) -> usize
     ensures { λ r. ⌜ Before (rowText row) (now (scratch .entry)) at (now (scratch .exit)) r ⌝ }
 {
     if row == 255 {
-        return byte_before(scratch, at, 45);
+        return byte_before(scratch, at, b'-');
     }
     decimal_before(scratch, at, row as u64)
 }
@@ -65,7 +65,7 @@ pub fn signed_before(scratch: &mut [u8], at: usize, number: i64) -> usize
 {
     let i = decimal_before(scratch, at, size_of(number));
     if number < 0 {
-        return byte_before(scratch, i, 45);
+        return byte_before(scratch, i, b'-');
     }
     i
 }
@@ -76,7 +76,7 @@ fn joined_before(scratch: &mut [u8], at: usize, end: usize, row: u32) -> usize
     ensures { λ r. ⌜ Before (joined row (ltb at end)) (now (scratch .entry)) at (now (scratch .exit)) r ⌝ }
 {
     if at < end {
-        let i = byte_before(scratch, at, 44);
+        let i = byte_before(scratch, at, b',');
         return decimal_before(scratch, i, row as u64);
     }
     decimal_before(scratch, at, row as u64)
@@ -104,7 +104,7 @@ pub fn ended_before(scratch: &mut [u8], at: usize, set: u32) -> usize
     ensures { λ r. ⌜ Before (endedText set) (now (scratch .entry)) at (now (scratch .exit)) r × (at ≤ r + 96) ⌝ }
 {
     if set == 0 {
-        return byte_before(scratch, at, 45);
+        return byte_before(scratch, at, b'-');
     }
     rows_before(scratch, at, set)
 }
@@ -114,7 +114,7 @@ pub fn row_field(scratch: &mut [u8], at: usize, row: u8) -> usize
     requires { ⌜ (4 ≤ at) × (at ≤ length (now scratch)) ⌝ }
     ensures { λ r. ⌜ Before (parted (rowText row)) (now (scratch .entry)) at (now (scratch .exit)) r ⌝ }
 {
-    let i = byte_before(scratch, at, 32);
+    let i = byte_before(scratch, at, b' ');
     row_before(scratch, i, row)
 }
 
@@ -123,7 +123,7 @@ pub fn number_field(scratch: &mut [u8], at: usize, number: u64) -> usize
     requires { ⌜ (length (parted (decimal number)) ≤ at) × (at ≤ length (now scratch)) ⌝ }
     ensures { λ r. ⌜ Before (parted (decimal number)) (now (scratch .entry)) at (now (scratch .exit)) r ⌝ }
 {
-    let i = byte_before(scratch, at, 32);
+    let i = byte_before(scratch, at, b' ');
     decimal_before(scratch, i, number)
 }
 
@@ -132,7 +132,7 @@ pub fn plan_field(scratch: &mut [u8], at: usize) -> usize
     requires { ⌜ (5 ≤ at) × (at ≤ length (now scratch)) ⌝ }
     ensures { λ r. ⌜ Before (parted (bytes "plan")) (now (scratch .entry)) at (now (scratch .exit)) r ⌝ }
 {
-    let i = byte_before(scratch, at, 32);
+    let i = byte_before(scratch, at, b' ');
     let i = byte_before(scratch, i, b'n');
     let i = byte_before(scratch, i, b'a');
     let i = byte_before(scratch, i, b'l');

@@ -28,7 +28,7 @@ fn answer_before(
     requires { ⌜ length (now scratch) ≡ 128 ⌝ }
     ensures { λ r. ⌜ Before (answerLine number answer subsystem task ended) (now (scratch .entry)) 128 (now (scratch .exit)) r ⌝ }
 {
-    let at = byte_before(scratch, 128, 10);
+    let at = byte_before(scratch, 128, b'\n');
     let at = ended_before(scratch, at, ended);
     let at = row_field(scratch, at, task);
     let at = row_field(scratch, at, subsystem);
@@ -59,7 +59,7 @@ fn refusal_before(scratch: &mut [u8], number: u32, beside: u32) -> usize
     requires { ⌜ length (now scratch) ≡ 128 ⌝ }
     ensures { λ r. ⌜ Before (printedRefusal number beside) (now (scratch .entry)) 128 (now (scratch .exit)) r ⌝ }
 {
-    let at = byte_before(scratch, 128, 10);
+    let at = byte_before(scratch, 128, b'\n');
     let at = decimal_before(scratch, at, beside as u64);
     let at = number_field(scratch, at, number as u64);
     plan_field(scratch, at)
@@ -88,7 +88,7 @@ fn report_before(
     requires { ⌜ length (now scratch) ≡ 128 ⌝ }
     ensures { λ r. ⌜ Before (reportText row period budget blocking demand margin) (now (scratch .entry)) 128 (now (scratch .exit)) r ⌝ }
 {
-    let at = byte_before(scratch, 128, 10);
+    let at = byte_before(scratch, 128, b'\n');
     let at = signed_before(scratch, at, margin);
     let at = number_field(scratch, at, demand);
     let at = number_field(scratch, at, blocking as u64);
