@@ -9,7 +9,7 @@ ghost use Rattle.plan.specs.Lent.{rowsFit, usesFit};
 mod admission;
 mod ceiling;
 mod rows;
-mod tables;
+pub mod tables;
 mod uses;
 
 use admission::blocking_of;

@@ -3,3 +3,4 @@ pub mod Update
 pub mod Fresh
 pub mod Legal
 pub mod Facts
+pub mod Lent

@@ -1,3 +1,21 @@
+// The state of a run: its types, a fresh one, one with a thing changed, and when one is legal.
+mod beginning;
+mod columns;
+mod update;
+
+pub use beginning::fresh;
+pub use columns::held_at;
+pub use columns::task_at;
+pub use update::giving_back;
+pub use update::idle_task;
+pub use update::readied;
+pub use update::started;
+pub use update::taking;
+pub use update::waiting_for;
+pub use update::with_left;
+pub use update::with_task;
+pub use update::with_used;
+
 // Budget left and section length left are two counts, of two types: one never stands for the other.
 pub struct BudgetLeft(pub u16);
 

@@ -1,0 +1,10 @@
+-- What the functions over a state's columns compute. A function is lent only the columns that it reads: its contract speaks of the state that has
+-- these columns and no others, so that it cites the definition that it meets.
+use mathlib.Core.List.{List}
+use Prim.Native.Nat.{ℕ}
+use Rattle.state.specs.declared.BudgetLeft.{BudgetLeft}
+use Rattle.state.specs.declared.State.{State}
+
+abbrev pub columns : List BudgetLeft → List ℕ → List ℕ → List ℕ → List ℕ → List ℕ → List ℕ → State
+columns left refill used conditions waits counts held =
+    record { left = left; refill = refill; used = used; conditions = conditions; waits = waits; counts = counts; held = held }
