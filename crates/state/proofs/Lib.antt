@@ -1,1 +1,2 @@
 pub mod CodeReads
+pub mod CodeLent

@@ -1,20 +1,25 @@
 // The state of a run: its types, a fresh one, one with a thing changed, and when one is legal.
+mod altered;
 mod beginning;
 mod columns;
-mod update;
+mod section;
 
+pub use altered::giving_back;
+pub use altered::idle_task;
+pub use altered::readied;
+pub use altered::started;
+pub use altered::taking;
+pub use altered::waiting_for;
+pub use altered::with_left;
+pub use altered::with_task;
+pub use altered::with_used;
 pub use beginning::fresh;
 pub use columns::held_at;
 pub use columns::task_at;
-pub use update::giving_back;
-pub use update::idle_task;
-pub use update::readied;
-pub use update::started;
-pub use update::taking;
-pub use update::waiting_for;
-pub use update::with_left;
-pub use update::with_task;
-pub use update::with_used;
+pub use section::in_section;
+pub use section::last_held;
+pub use section::left_at;
+pub use section::section_left;
 
 // Budget left and section length left are two counts, of two types: one never stands for the other.
 pub struct BudgetLeft(pub u16);

@@ -4,30 +4,30 @@ use lib.ListN.{length}
 use mathlib.Core.Path.{_≡_}
 use Rattle.state.specs.Update.{taking}
 use borrow.Author.Needs.{needs}
-use Rattle.state.proofs.update.taking.Statement.{statement}
-use Rattle.state.proofs.update.taking.Tie as tie
-use Rattle.state.proofs.update.taking.Reads as reads
-use Rattle.state.proofs.update.taking.Lts as lts
-use Rattle.state.proofs.update.one_more.Reads as one-more-reads
+use Rattle.state.proofs.altered.taking.Statement.{statement}
+use Rattle.state.proofs.altered.taking.Tie as tie
+use Rattle.state.proofs.altered.taking.Reads as reads
+use Rattle.state.proofs.altered.taking.Lts as lts
+use Rattle.state.proofs.altered.one_more.Reads as one-more-reads
 
--- src/update.rt:110:9
+-- src/altered.rt:110:9
 one-more-requires : tie.Need-one-more-requires
 one-more-requires c κs = search needs
 
--- src/update.rt:112:14
+-- src/altered.rt:112:14
 cast-held : tie.Need-cast-held
 cast-held c = search needs
 
--- src/update.rt:112:9
+-- src/altered.rt:112:9
 array-write-held : tie.Need-array-write-held
 array-write-held c = search needs
 
--- src/update.rt:105:1
+-- src/altered.rt:105:1
 returns : tie.Need-returns
 unfolding taking
 returns c = λ h. rw (c .before .one-more .ensures h)
 
--- src/update.rt:105:1
+-- src/altered.rt:105:1
 returns-2 : tie.Need-returns-2
 unfolding taking
 returns-2 c = λ h.

@@ -125,7 +125,7 @@ fn one_more(n: u8) -> u8
     if n < 255 { n + 1 } else { n }
 }
 
-fn one_less(n: u8) -> u8
+pub fn one_less(n: u8) -> u8
     ensures { λ r. ⌜ r ≡ n - 1 ⌝ }
 {
     if n < 1 { 0 } else { n - 1 }

@@ -2,25 +2,25 @@ use mathlib.Core.Path.{refl}
 use Rattle.state.specs.Update.{withLeft}
 use Rattle.state.proofs.CodeReads.{unmapped, withLeft-past}
 use borrow.Author.Needs.{needs}
-use Rattle.state.proofs.update.with_left.Statement.{statement}
-use Rattle.state.proofs.update.with_left.Tie as tie
-use Rattle.state.proofs.update.with_left.Reads as reads
-use Rattle.state.proofs.update.with_left.Lts as lts
+use Rattle.state.proofs.altered.with_left.Statement.{statement}
+use Rattle.state.proofs.altered.with_left.Tie as tie
+use Rattle.state.proofs.altered.with_left.Reads as reads
+use Rattle.state.proofs.altered.with_left.Lts as lts
 
--- src/update.rt:40:9
+-- src/altered.rt:40:9
 mul-q : tie.Need-mul-q
 mul-q c = search needs
 
--- src/update.rt:40:9
+-- src/altered.rt:40:9
 element-set-from-q : tie.Need-element-set-from-q
 element-set-from-q c = search needs
 
--- src/update.rt:35:1
+-- src/altered.rt:35:1
 returns : tie.Need-returns
 unfolding withLeft
 returns c = refl
 
--- src/update.rt:35:1
+-- src/altered.rt:35:1
 returns-2 : tie.Need-returns-2
 returns-2 c = withLeft-past _ _ _ (search (needs, unmapped)) (c .if1 .left)
 
