@@ -7,7 +7,7 @@ use lib.Dec.{leb, ltb, eqb}
 use lib.ListN.{getD}
 use Rattle.below.specs.Below.{all}
 use Rattle.plan.specs.declared.Plan.{Plan}
-use Rattle.plan.specs.Limits.{mostSubsystems, mostTasks}
+use Rattle.plan.specs.Limits.{mostSubsystems, mostTasks, noRow}
 use Rattle.plan.specs.Plan.{owner, isGlobal, declares, level, takenBefore}
 use Rattle.state.specs.declared.BudgetLeft.{BudgetLeft}
 use Rattle.state.specs.declared.Task.{Task}
@@ -27,19 +27,29 @@ countsFit p s c = implies (ltb c (p .subsystems)) (countsLegal p s c) && implies
 unfoldable pub sectionOf : Plan → State → ℕ → ℕ → Bool
 sectionOf p s c k = eqb (owner p k) c && inSection p (taskAt s k)
 
+-- the i-th place holds a resource, or says that it holds none
+unfoldable pub freeAt : Task → ℕ → Bool
+freeAt t i = implies (leb (t .count) i) (eqb (heldAt t i) noRow)
+
+-- the j-th held resource is not the i-th
+unfoldable pub unlikeAt : Task → ℕ → ℕ → Bool
+unlikeAt t i j = not (eqb (heldAt t j) (heldAt t i))
+
 -- the i-th resource that task k holds is there, declared, unlike those taken before, and the last if it is global
 unfoldable pub heldOne : Plan → ℕ → Task → ℕ → Bool
 heldOne p k t i =
     ltb (heldAt t i) (p .resources)
     && declares p k (heldAt t i)
-    && all i (λ j. not (eqb (heldAt t j) (heldAt t i)))
+    && all i (unlikeAt t i)
     && implies (isGlobal p (heldAt t i)) (eqb (i + 1) (t .count))
 
--- a task by itself, present or absent
+-- a task by itself
+unfoldable pub aloneLegal : Plan → ℕ → Task → Bool
+aloneLegal p k t = wellWritten t && heldLegal p k t && restingLegal t && waitingLegal p k t
+
+-- and present or absent
 unfoldable pub taskFits : Plan → State → ℕ → Bool
-taskFits p s k =
-    implies (ltb k (p .tasks)) (wellWritten (taskAt s k) && heldLegal p k (taskAt s k) && restingLegal (taskAt s k) && waitingLegal p k (taskAt s k))
-    && implies (leb (p .tasks) k) (absentTask (taskAt s k))
+taskFits p s k = implies (ltb k (p .tasks)) (aloneLegal p k (taskAt s k)) && implies (leb (p .tasks) k) (absentTask (taskAt s k))
 
 -- j is no started or waiting task of k's subsystem that is taken before k, or it lies below the row
 unfoldable pub belowRow : Plan → State → ℕ → ℕ → ℕ → Bool

@@ -1,7 +1,11 @@
 // The state of a run: its types, a fresh one, one with a thing changed, and when one is legal.
+mod alone;
 mod altered;
+mod apart;
 mod beginning;
+mod budgets;
 mod columns;
+mod order;
 mod section;
 
 pub use altered::giving_back;
