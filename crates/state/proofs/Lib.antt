@@ -1,2 +1,4 @@
 pub mod CodeReads
 pub mod CodeLent
+pub mod CodeSplit
+pub mod CodeLegal

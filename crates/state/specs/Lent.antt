@@ -76,12 +76,12 @@ apart p ceilings s j k =
 unfoldable pub apartFrom : Plan → List ℕ → State → ℕ → Bool
 apartFrom p ceilings s j = all (p .tasks) (apart p ceilings s j)
 
--- the conditions of a legal state, in the order in which they are tested: subsystems, tasks by themselves, tasks together
-unfoldable pub legalBy : Plan → List ℕ → State → Bool
-legalBy p ceilings s =
-    all mostSubsystems (countsFit p s)
-    && all (p .subsystems) (unusedLegal p s)
-    && all mostTasks (taskFits p s)
-    && all (p .tasks) (sectionLegal p s)
-    && all (p .tasks) (ordered p ceilings s)
-    && all (p .tasks) (apartFrom p ceilings s)
+-- the conditions of a legal state, in the order in which they are tested: of subsystems, of tasks by themselves, of tasks together
+unfoldable pub subsystemsPass : Plan → State → Bool
+subsystemsPass p s = all mostSubsystems (countsFit p s) && all (p .subsystems) (unusedLegal p s)
+
+unfoldable pub tasksPass : Plan → State → Bool
+tasksPass p s = all mostTasks (taskFits p s) && all (p .tasks) (sectionLegal p s)
+
+unfoldable pub orderPass : Plan → List ℕ → State → Bool
+orderPass p ceilings s = all (p .tasks) (ordered p ceilings s) && all (p .tasks) (apartFrom p ceilings s)

@@ -13,7 +13,7 @@ use plan::tables::byte_at;
 fn sections_apart<'a, 'b, 'c>(
     owners: &'a [u8],
     kinds: &'a [u8],
-    ceilings: &'b [u8],
+    ceilings: &'b [u8; 16],
     conditions: &'c [u8; 32],
     waits: &'c [u8; 32],
     counts: &'c [u8; 32],
@@ -45,7 +45,7 @@ fn sections_apart<'a, 'b, 'c>(
 fn all_from<'a, 'b, 'c>(
     owners: &'a [u8],
     kinds: &'a [u8],
-    ceilings: &'b [u8],
+    ceilings: &'b [u8; 16],
     conditions: &'c [u8; 32],
     waits: &'c [u8; 32],
     counts: &'c [u8; 32],
@@ -79,7 +79,7 @@ fn all_from<'a, 'b, 'c>(
 fn apart_from<'a, 'b, 'c>(
     owners: &'a [u8],
     kinds: &'a [u8],
-    ceilings: &'b [u8],
+    ceilings: &'b [u8; 16],
     conditions: &'c [u8; 32],
     waits: &'c [u8; 32],
     counts: &'c [u8; 32],
@@ -108,7 +108,7 @@ fn apart_from<'a, 'b, 'c>(
 pub fn all_apart<'a, 'b, 'c>(
     owners: &'a [u8],
     kinds: &'a [u8],
-    ceilings: &'b [u8],
+    ceilings: &'b [u8; 16],
     conditions: &'c [u8; 32],
     waits: &'c [u8; 32],
     counts: &'c [u8; 32],

@@ -5,6 +5,7 @@ mod apart;
 mod beginning;
 mod budgets;
 mod columns;
+mod legality;
 mod order;
 mod section;
 
@@ -20,6 +21,7 @@ pub use altered::with_used;
 pub use beginning::fresh;
 pub use columns::held_at;
 pub use columns::task_at;
+pub use legality::legal;
 pub use section::in_section;
 pub use section::last_held;
 pub use section::left_at;

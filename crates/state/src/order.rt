@@ -55,7 +55,7 @@ fn all_below_row<'a, 'b>(owners: &'a [u8], conditions: &'b [u8], tasks: u8, k: u
 fn below_held<'a, 'b, 'c>(
     owners: &'a [u8],
     kinds: &'a [u8],
-    ceilings: &'b [u8],
+    ceilings: &'b [u8; 16],
     conditions: &'c [u8],
     tasks: u8,
     k: u8,
@@ -75,7 +75,7 @@ fn below_held<'a, 'b, 'c>(
 fn all_below_held<'a, 'b, 'c>(
     owners: &'a [u8],
     kinds: &'a [u8],
-    ceilings: &'b [u8],
+    ceilings: &'b [u8; 16],
     conditions: &'c [u8],
     tasks: u8,
     k: u8,
@@ -118,7 +118,7 @@ fn first_held<'a, 'b>(
 fn task_ordered<'a, 'b, 'c>(
     owners: &'a [u8],
     kinds: &'a [u8],
-    ceilings: &'b [u8],
+    ceilings: &'b [u8; 16],
     conditions: &'c [u8; 32],
     waits: &'c [u8; 32],
     counts: &'c [u8; 32],
@@ -138,7 +138,7 @@ fn task_ordered<'a, 'b, 'c>(
 pub fn all_ordered<'a, 'b, 'c>(
     owners: &'a [u8],
     kinds: &'a [u8],
-    ceilings: &'b [u8],
+    ceilings: &'b [u8; 16],
     conditions: &'c [u8; 32],
     waits: &'c [u8; 32],
     counts: &'c [u8; 32],

@@ -71,7 +71,7 @@ byte-at-requires-3 c κs = search needs
 -- src/apart.rt:198:9
 returns-4 : tie.Need-returns-4
 unfolding apart implies owner level
-returns-4 c = rw (← c .before .before .before .before .before .before .before .before .before .before .before .task-at .ensures, ← section-reads (c .before .before .before .before .before .before .before .before .before .before .before .task-at .result), sym (c .before .before .before .before .before .before .before .before .before .before .in-section .ensures) ∙ not-false _ (c .before .before .before .before .before .before .before .before .before .if1 .left), ← c .before .before .before .before .before .before .before .before .task-at2 .ensures, ← section-reads (c .before .before .before .before .before .before .before .before .task-at2 .result), sym (c .before .before .before .before .before .before .before .in-section2 .ensures) ∙ not-false _ (c .before .before .before .before .before .before .if2 .left), ← c .before .before .before .before .before .byte-at .ensures, ← c .before .before .before .before .byte-at2 .ensures, ne-eqb _ _ (c .before .before .before .if3 .left), ← c .before .before .last-held .ensures, ← c .before .byte-at3 .ensures, lt-ltb _ _ (c .if4 .taken))
+returns-4 c = rw (← c .before .before .before .before .before .before .before .before .before .before .before .before .task-at .ensures, ← section-reads (c .before .before .before .before .before .before .before .before .before .before .before .before .task-at .result), sym (c .before .before .before .before .before .before .before .before .before .before .before .in-section .ensures) ∙ not-false _ (c .before .before .before .before .before .before .before .before .before .before .if1 .left), ← c .before .before .before .before .before .before .before .before .before .task-at2 .ensures, ← section-reads (c .before .before .before .before .before .before .before .before .before .task-at2 .result), sym (c .before .before .before .before .before .before .before .before .in-section2 .ensures) ∙ not-false _ (c .before .before .before .before .before .before .before .if2 .left), ← c .before .before .before .before .before .before .byte-at .ensures, ← c .before .before .before .before .before .byte-at2 .ensures, ne-eqb _ _ (c .before .before .before .before .if3 .left), ← c .before .before .last-held .ensures, ← c .before .byte-at3 .ensures, lt-ltb _ _ (c .if4 .taken))
 
 -- src/apart.rt:200:27
 last-held-requires-2 : tie.Need-last-held-requires-2
@@ -88,7 +88,7 @@ byte-at-requires-4 c κs = search needs
 -- src/apart.rt:171:1
 returns-5 : tie.Need-returns-5
 unfolding apart implies owner level
-returns-5 c = rw (← c .before .before .before .before .before .before .before .before .before .before .before .before .before .task-at .ensures, ← section-reads (c .before .before .before .before .before .before .before .before .before .before .before .before .before .task-at .result), sym (c .before .before .before .before .before .before .before .before .before .before .before .before .in-section .ensures) ∙ not-false _ (c .before .before .before .before .before .before .before .before .before .before .before .if1 .left), ← c .before .before .before .before .before .before .before .before .before .before .task-at2 .ensures, ← section-reads (c .before .before .before .before .before .before .before .before .before .before .task-at2 .result), sym (c .before .before .before .before .before .before .before .before .before .in-section2 .ensures) ∙ not-false _ (c .before .before .before .before .before .before .before .before .if2 .left), ← c .before .before .before .before .before .before .before .byte-at .ensures, ← c .before .before .before .before .before .before .byte-at2 .ensures, ne-eqb _ _ (c .before .before .before .before .before .if3 .left), ← c .before .before .before .before .last-held .ensures, ← c .before .before .before .byte-at3 .ensures, le-ltb _ _ (c .before .before .if4 .left), ← c .before .last-held2 .ensures, ← c .byte-at4 .ensures)
+returns-5 c = rw (← c .before .before .before .before .before .before .before .before .before .before .before .before .before .before .before .task-at .ensures, ← section-reads (c .before .before .before .before .before .before .before .before .before .before .before .before .before .before .before .task-at .result), sym (c .before .before .before .before .before .before .before .before .before .before .before .before .before .before .in-section .ensures) ∙ not-false _ (c .before .before .before .before .before .before .before .before .before .before .before .before .before .if1 .left), ← c .before .before .before .before .before .before .before .before .before .before .before .before .task-at2 .ensures, ← section-reads (c .before .before .before .before .before .before .before .before .before .before .before .before .task-at2 .result), sym (c .before .before .before .before .before .before .before .before .before .before .before .in-section2 .ensures) ∙ not-false _ (c .before .before .before .before .before .before .before .before .before .before .if2 .left), ← c .before .before .before .before .before .before .before .before .before .byte-at .ensures, ← c .before .before .before .before .before .before .before .before .byte-at2 .ensures, ne-eqb _ _ (c .before .before .before .before .before .before .before .if3 .left), ← c .before .before .before .before .before .last-held .ensures, ← c .before .before .before .before .byte-at3 .ensures, le-ltb _ _ (c .before .before .before .if4 .left), ← c .before .last-held2 .ensures, ← c .byte-at4 .ensures)
 
 pub sections-apart-spec : {M : Type 1} → statement M
 sections-apart-spec =

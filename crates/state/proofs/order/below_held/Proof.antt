@@ -30,7 +30,7 @@ all-below-row-requires c κs = search needs
 
 returns-2 : tie.Need-returns-2
 unfolding belowHeld isGlobal
-returns-2 c = rw (← c .before .before .before .before .held-at .ensures, ← c .before .before .before .byte-at .ensures, ne-eqb _ _ (c .before .before .if1 .left), ← c .before .byte-at2 .ensures, ← below-reads) (c .all-below-row .ensures)
+returns-2 c = rw (← c .before .before .before .before .before .held-at .ensures, ← c .before .before .before .before .byte-at .ensures, ne-eqb _ _ (c .before .before .before .if1 .left), ← c .before .byte-at2 .ensures, ← below-reads) (c .all-below-row .ensures)
 
 pub below-held-spec : {M : Type 1} → statement M
 below-held-spec = tie.close (tie.spec held-at-requires cast-byte-at byte-at-requires returns cast-byte-at-2 byte-at-requires-2 all-below-row-requires returns-2)

@@ -1,0 +1,26 @@
+use mathlib.Core.Path.{sym, _∙_}
+use borrow.Author.Tests.{not-true, not-false}
+use Rattle.state.specs.Lent.{orderPass, ordered, belowHeld, belowRow, firstHeld, apartFrom, apart}
+use Rattle.state.specs.Legal.{activeBefore}
+use Rattle.state.specs.State.{taskAt, inSection, isActive, isStarted, isWaiting}
+use Rattle.plan.specs.Plan.{owner, isGlobal, level, takenBefore}
+use borrow.Author.Needs.{needs}
+use Rattle.state.proofs.legality.order_passes.Statement.{statement}
+use Rattle.state.proofs.legality.order_passes.Tie as tie
+
+all-ordered-requires : tie.Need-all-ordered-requires
+all-ordered-requires c κs = search needs
+
+returns : tie.Need-returns
+unfolding orderPass ordered belowHeld belowRow firstHeld apartFrom apart activeBefore taskAt inSection isActive isStarted isWaiting owner isGlobal level takenBefore
+returns c = rw (sym (c .before .all-ordered .ensures) ∙ not-true _ (c .if1 .taken))
+
+all-apart-requires : tie.Need-all-apart-requires
+all-apart-requires c κs = search needs
+
+returns-2 : tie.Need-returns-2
+unfolding orderPass ordered belowHeld belowRow firstHeld apartFrom apart activeBefore taskAt inSection isActive isStarted isWaiting owner isGlobal level takenBefore
+returns-2 c = rw (sym (c .before .before .before .before .before .before .before .before .before .before .before .before .before .all-ordered .ensures) ∙ not-false _ (c .before .before .before .before .before .before .before .before .before .before .before .before .if1 .left)) (c .all-apart .ensures)
+
+pub order-passes-spec : {M : Type 1} → statement M
+order-passes-spec = tie.close (tie.spec all-ordered-requires returns all-apart-requires returns-2)
