@@ -1,6 +1,6 @@
 -- Laws of sum and greatest: how a counting loop starts and goes on, bounds, and that only the numbers below n count.
 use mathlib.Core.Path.{_≡_, refl, sym, ap, ap₂}
-use mathlib.Core.Logic.{_≢_, ⊎-elim}
+use mathlib.Core.Logic.{_≢_, _⊎_, inl, inr, ⊎-elim}
 use mathlib.Core.Bool.{Bool, true, false, cond}
 use Prim.Native.Nat.{ℕ, zero, suc, _+_, _*_, max, _≤_, _<_}
 use native.Mathlib.Nat.{not-suc-le-zero, le-of-suc-le-suc, eq-or-lt-of-le, le-of-eq, le-step, lt-suc-self}
@@ -57,6 +57,18 @@ pub sum-zero : (n : ℕ) (f : ℕ → ℕ) → ((k : ℕ) → k < n → f k ≡ 
 unfolding sum
 sum-zero zero f e = refl
 sum-zero (suc n) f e = omega (arith, sum-zero n f (λ k h. e k (le-step h)), e n (lt-suc-self n))
+
+-- sum: where every other entry is nothing, it is the one
+pub sum-only : (n : ℕ) (f : ℕ → ℕ) (k : ℕ) → k < n → ((j : ℕ) → j < n → j ≢ k → f j ≡ 0) → sum n f ≡ f k
+unfolding sum
+sum-only zero f k h e = absurd (not-suc-le-zero h)
+sum-only (suc n) f k h e = go (last-or-before h) (sum-only n f k)
+  where
+    go : (k ≡ n) ⊎ (k < n) → (k < n → ((j : ℕ) → j < n → j ≢ k → f j ≡ 0) → sum n f ≡ f k) → sum n f + f n ≡ f k
+    go (inl q) ih =
+        let v : f k ≡ f n = ap f q in
+        omega (arith, sum-zero n f (λ j l. e j (le-step l) (omega arith)))
+    go (inr l) ih = omega (arith, ih l (λ j m. e j (le-step m)), e n (lt-suc-self n) (omega arith))
 
 -- sum: one entry, and two together, are at most the sum
 
@@ -116,6 +128,9 @@ greatest-at (suc n) f k h = ⊎-elim
     (λ q. let e : f k ≡ f n = ap f q in omega arith)
     (λ v. omega (arith, greatest-at n f k v))
     (last-or-before h)
+
+pub greatest-over : (n : ℕ) (f : ℕ → ℕ) (k x : ℕ) → k < n → x ≤ f k → x ≤ greatest n f
+greatest-over n f k x h l = omega (arith, greatest-at n f k h)
 
 pub greatest-most : (n : ℕ) (f : ℕ → ℕ) (m : ℕ) → ((k : ℕ) → k < n → f k ≤ m) → greatest n f ≤ m
 unfolding greatest

@@ -1,3 +1,4 @@
 pub mod Below
 pub mod Listed
 pub mod Quotient
+pub mod Least

@@ -10,6 +10,10 @@ pub record MarginCall : Type 0 where
   pub number : ℕ
   pub margin : ℤ
 
+-- what a call returned and left behind
+abbrev pub marginLeft : ℕ → ℤ → MarginCall
+marginLeft n m = record { number = n; margin = m }
+
 -- 0 and the margin; or a refusal with the number beside it in the margin's place
 unfoldable pub marginCall : List ℕ → ℕ → MarginCall
 marginCall text row = record { number = askedNumber (asked text row); margin = askedValue (asked text row) }

@@ -15,6 +15,10 @@ pub record ReadCall : Type 0 where
   pub block : List ℕ
   pub beside : ℕ
 
+-- what a call returned and left behind
+abbrev pub readLeft : ℕ → List ℕ → ℕ → ReadCall
+readLeft n block beside = record { number = n; block = block; beside = beside }
+
 -- an accepted plan fills the block; a refusal keeps it and says the number beside
 unfoldable pub readGives : Reading → List ℕ → ReadCall
 readGives r block =

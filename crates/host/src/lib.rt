@@ -1,1 +1,35 @@
-// The calls from C. Their definitions are in specs/.
+// The calls from C ("Calls from C"). Each says in one equation what it returns and what it leaves behind of everything it is lent.
+ghost use mathlib.Core.Path.{_≡_};
+ghost use Rattle.host.specs.Read.{readLeft, readCall};
+ghost use Rattle.host.specs.Margin.{marginLeft, marginCall};
+
+// A plan text to its block. 34 where the block has another length than 1,108 bytes; otherwise 0 and the block, or the refusal with the
+// block as it was. The number beside is part of the answer, and kept only with 34.
+#[no_mangle]
+pub extern "C" fn skrzypolot_read(text: &[u8], block: &mut [u8], beside: &mut u32) -> u32
+    ensures { λ r. ⌜ readLeft r (now (block .exit)) (now (beside .exit)) ≡ readCall (now (text .entry)) (now (block .entry)) (now (beside .entry)) ⌝ }
+{
+    if block.len() != 1108 {
+        return 34;
+    }
+    let r = reader::read(text);
+    let v = r.verdict;
+    if !reader::numbers::is_accepted(v) {
+        *beside = reader::numbers::beside(v);
+        return reader::numbers::number(v);
+    }
+    let plan = r.plan;
+    image::write_block(plan, block);
+    *beside = 0;
+    0
+}
+
+// The margin of a row of a plan text: 0 and the margin, or a refusal with the number beside it in the margin's place.
+#[no_mangle]
+pub extern "C" fn skrzypolot_margin(text: &[u8], row: u32, margin: &mut i64) -> u32
+    ensures { λ r. ⌜ marginLeft r (now (margin .exit)) ≡ marginCall (now (text .entry)) row ⌝ }
+{
+    let a = reader::ask(text, row);
+    *margin = reader::numbers::asked_value(a);
+    reader::numbers::asked_number(a)
+}

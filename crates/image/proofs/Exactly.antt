@@ -18,7 +18,7 @@ use Rattle.reader.proofs.Sound.{read-shaped, read-accepted}
 use Rattle.reader.proofs.TextOf.{text-reads-back}
 use Rattle.image.specs.Words.{byteAt, wordAt}
 use Rattle.image.specs.Block.{blockBytes, blockOf, planOf, isBlock, HasText, blockNumber}
-use Rattle.image.proofs.Block.{plan-of-block-of, same-refl, same-true}
+use Rattle.image.proofs.BlockLaws.{plan-of-block-of, same-refl, same-true}
 
 -- whatever the block, the plan that it writes has tables of their lengths
 plan-shaped : (b : List ℕ) → Shaped (planOf b)

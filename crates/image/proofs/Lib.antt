@@ -1,3 +1,5 @@
-pub mod Words
-pub mod Block
+pub mod WordLaws
+pub mod Parts
+pub mod BlockLaws
+pub mod Written
 pub mod Exactly

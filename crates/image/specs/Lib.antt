@@ -1,3 +1,4 @@
 pub mod Words
 pub mod Block
+pub mod BlockCalls
 pub mod Image

@@ -3,3 +3,6 @@ pub mod Printed
 pub mod Filled
 pub mod Report
 pub mod Run
+pub mod Before
+pub mod Reported
+pub mod Named

@@ -1,3 +1,13 @@
+mod before;
+mod events;
+mod printed;
+mod put;
+
+pub use events::event_of;
+pub use printed::print;
+pub use printed::print_refusal;
+pub use printed::report_line;
+
 // An event line that was read.
 pub enum Event {
     Known { kind: u32, task: u32, resource: u32 },

@@ -1,7 +1,7 @@
 -- What the loops over a plan's tables compute. A loop is lent only the tables that it reads: its contract speaks of the plan that has these tables and
 -- no others, so that it cites the definition that it meets.
 use mathlib.Core.Bool.{Bool, not, _&&_, _||_, cond}
-use mathlib.Core.List.{List, []}
+use mathlib.Core.List.{List}
 use Prim.Native.Nat.{ℕ, _*_}
 use lib.Dec.{leb, ltb, eqb}
 use Rattle.below.specs.Below.{all, any, greatest}

@@ -1,19 +1,19 @@
 -- Laws of what is said of a line: how the order of the table is followed.
-use mathlib.Core.Path.{_≡_, refl}
-use mathlib.Core.Bool.{Bool, true, false, _||_, or-true}
-use mathlib.Core.List.{List, [], _∷_}
+use mathlib.Core.Path.{_≡_}
+use mathlib.Core.Bool.{Bool, true, false, or-true}
+use mathlib.Core.List.{[], _∷_}
 use Prim.Native.Nat.{ℕ, _≤_, _<_}
 use lib.Dec.{leb}
 use borrow.Author.Tests.{le-leb, lt-leb}
+use Rattle.below.specs.Below.{any}
 use Rattle.plan.specs.declared.Plan.{Plan}
-use Rattle.plan.specs.Plan.{declares}
-use Rattle.reader.specs.declared.Verdict.{Verdict}
-use Rattle.reader.specs.declared.Verdict.the-variants.{NotGrammar, KindOrder, TooManyRows, NoSuchRow, OutOfRange, Twice, TwoSubsystems, AboveBudget}
+use Rattle.plan.specs.Plan.{isGlobal, declares, lengthOf, owner}
+use Rattle.reader.specs.declared.Verdict.the-variants.{NotGrammar, KindOrder, NoSuchRow, OutOfRange, Twice, TwoSubsystems, AboveBudget}
 use Rattle.reader.specs.declared.Line.{Line}
 use Rattle.reader.specs.declared.Line.the-variants.{Uses}
 use Rattle.reader.specs.Conditions.{notGrammar, kindOrder, tooManyRows, noSuchRow, outOfRange, twice, twoSubsystems, aboveBudget}
 use Rattle.reader.specs.Reading.{firstOf, judged}
-use Rattle.reader.specs.Judged.{judgedRows}
+use Rattle.reader.specs.Judged.{judgedRows, apartAt}
 
 -- 21, then 22, then the rest
 module _ (p : Plan) (last n : ℕ) (l : Line) where
@@ -51,3 +51,14 @@ module _ (p : Plan) (t r l : ℕ) where
   pub both-rows : t < p .tasks → r < p .resources → noSuchRow p (Uses t r l) ≡ false
   unfolding noSuchRow
   both-rows h k = rw (lt-leb (p .tasks) t h, lt-leb (p .resources) r k)
+
+-- 27: a global resource never, a local one where a task is apart from the owner
+module _ (p : Plan) (t r l : ℕ) where
+  pub never-two : isGlobal p r ≡ true → twoSubsystems p (Uses t r l) ≡ false
+  unfolding twoSubsystems
+  never-two g = rw g
+
+  pub two-apart : isGlobal p r ≡ false → {o : ℕ} → o ≡ owner p t
+      → twoSubsystems p (Uses t r l) ≡ any (p .tasks) (apartAt (p .owners) (p .lengths) r o)
+  unfolding twoSubsystems declares lengthOf owner apartAt
+  two-apart g e = rw (g, e)

@@ -1,9 +1,8 @@
 -- Laws of the letter of a line and of the letter of a resource.
-use mathlib.Core.Path.{_≡_, refl, sym, ap, _∙_}
-use mathlib.Core.Bool.{Bool, true, false, _&&_, and-false}
+use mathlib.Core.Path.{_≡_, refl, ap}
+use mathlib.Core.Bool.{Bool, true, false, and-false}
 use mathlib.Core.List.{List, [], _∷_}
 use Prim.Native.Nat.{ℕ, zero, suc, _-_, _≤_, _<_}
-use native.Mathlib.Nat.{not-suc-le-zero}
 use native.Mathlib.Omega.{arith}
 use lib.Dec.{eqb}
 use lib.ListN.{length, getD, take, drop}
@@ -12,7 +11,7 @@ use borrow.Author.Tests.{ne-eqb}
 use Rattle.text.specs.Bytes.{bytes, same}
 use Rattle.text.specs.Lines.{until, onto, fields, tab}
 use Rattle.text.specs.Numbers.{numbers, ofOne, ofTwo, ofThree}
-use Rattle.text.proofs.Parted.{Parted, Whole, parted-at, parted-before}
+use Rattle.text.proofs.Parted.{parted-at, parted-before}
 use Rattle.text.proofs.Lines.{fields-tab, fields-whole}
 use Rattle.reader.specs.declared.Line.{Line}
 use Rattle.reader.specs.declared.Line.the-variants.{Subsystem, Task, Resource, Uses, Malformed}

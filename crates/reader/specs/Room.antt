@@ -1,5 +1,5 @@
 -- What a line needs of the plan it is added to: a place for its row, and numbers that fit there. A line that was accepted has it.
-use Prim.Native.Nat.{ℕ, _≤_, _<_}
+use Prim.Native.Nat.{_≤_, _<_}
 use Rattle.plan.specs.declared.Plan.{Plan}
 use Rattle.plan.specs.Limits.{mostSubsystems, mostTasks, mostResources, longest}
 use Rattle.reader.specs.declared.Line.{Line}

@@ -1,7 +1,6 @@
 // "Admission", its table: what is said of one line over the plan read so far. The tests stand in the order of the table.
 ghost use mathlib.Core.Path.{_≡_};
 ghost use Prim.Native.Nat.{ℕ};
-ghost use lib.ListN.{getD};
 ghost use Rattle.below.specs.Below.{any};
 ghost use Rattle.plan.specs.declared.Plan.{Plan};
 ghost use Rattle.plan.specs.Plan.{declares};
@@ -12,25 +11,8 @@ use crate::Line;
 use crate::Verdict;
 use crate::grammar::kind_of;
 use plan::Plan;
-
-// A place past the end reads as 0, as the definitions read it: so nothing has to be asked of the plan.
-fn byte_at(a: &[u8], i: usize) -> u8
-    ensures { λ r. ⌜ r ≡ getD (now (a .entry)) i 0 ⌝ }
-{
-    if i < a.len() {
-        return a[i];
-    }
-    0
-}
-
-fn word_at(a: &[u16], i: usize) -> u16
-    ensures { λ r. ⌜ r ≡ getD (now (a .entry)) i 0 ⌝ }
-{
-    if i < a.len() {
-        return a[i];
-    }
-    0
-}
+use plan::tables::byte_at;
+use plan::tables::word_at;
 
 // S
 fn judge_subsystem(subsystems: u8, n: u32, period: u32, budget: u32) -> Verdict

@@ -1,3 +1,14 @@
+pub mod TaskFacts
+pub mod Facts
+pub mod Update
+pub mod TaskUpdate
+pub mod Parts
+pub mod Tasks
+pub mod Counts
+pub mod Replaced
+pub mod Changed
+pub mod Fresh
+pub mod TaskKept
 pub mod CodeReads
 pub mod CodeLent
 pub mod CodeSplit

@@ -2,3 +2,4 @@ pub mod Refusals
 pub mod Events
 pub mod Tick
 pub mod Step
+pub mod Strict

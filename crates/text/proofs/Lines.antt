@@ -1,10 +1,11 @@
 -- Laws of lines, of a line's body and of fields, by the first line feed or the first tab.
 use mathlib.Core.Path.{_≡_, refl}
-use mathlib.Core.Bool.{true, false}
 use mathlib.Core.List.{List, [], _∷_}
-use mathlib.Core.Option.{Option, none, some}
-use Prim.Native.Nat.{ℕ, suc}
-use lib.ListN.{take, drop}
+use mathlib.Core.Option.{none, some}
+use Prim.Native.Nat.{ℕ, suc, _<_}
+use native.Mathlib.Nat.{not-suc-le-zero}
+use native.Mathlib.Omega.{arith}
+use lib.ListN.{length, take, drop}
 use Rattle.text.specs.Lines.{onto, lines, body, emptyOrNone, fields, tab, lineFeed}
 use Rattle.text.proofs.Parted.{Parted, Whole}
 
@@ -14,10 +15,11 @@ unfolding lines onto
 lines-feed Parted.here = refl
 lines-feed (Parted.on e p) = rw (lines, e, lines-feed p)
 
-pub lines-whole : (x : ℕ) {xs : List ℕ} → Whole lineFeed (x ∷ xs) → lines (x ∷ xs) ≡ (x ∷ xs) ∷ []
+pub lines-whole : {t : List ℕ} → 0 < length t → Whole lineFeed t → lines t ≡ t ∷ []
 unfolding lines onto
-lines-whole x (Whole.on e Whole.end) = rw (lines, e)
-lines-whole x (Whole.on e (Whole.on f w)) = rw (lines, e, lines-whole _ (Whole.on f w))
+lines-whole h Whole.end = absurd (not-suc-le-zero h)
+lines-whole h (Whole.on e Whole.end) = rw (lines, e)
+lines-whole h (Whole.on e (Whole.on {x = y} {xs = ys} f w)) = rw (lines, e, lines-whole {t = y ∷ ys} (omega arith) (Whole.on f w))
 
 -- the body of such a line is what stands before the line feed; a line without one has none
 pub body-feed : {t : List ℕ} {m : ℕ} → Parted lineFeed t m → body (take (suc m) t) ≡ some (take m t)

@@ -1,5 +1,5 @@
 -- A row of digits of any length, leading zeros or not: what is left of a number once its length and its first digit are judged.
-use mathlib.Core.Bool.{Bool, true, false}
+use mathlib.Core.Bool.{true, false}
 use mathlib.Core.List.{List}
 use Prim.Native.Nat.{ℕ}
 use Rattle.text.specs.declared.Number.{Number}

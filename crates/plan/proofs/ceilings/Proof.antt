@@ -1,17 +1,13 @@
+-- The tables that were not lent do not stand in the definition.
 use Rattle.plan.specs.Plan.{owner, isGlobal, lengthOf, declares, level, foremost}
 use Rattle.plan.specs.Ceiling.{ceiling, globalCeiling, localCeiling}
 use borrow.Author.Needs.{needs}
 use Rattle.plan.proofs.ceilings.Statement.{statement}
 use Rattle.plan.proofs.ceilings.Tie as tie
-use Rattle.plan.proofs.ceilings.Reads as reads
-use Rattle.plan.proofs.ceilings.Lts as lts
-use Rattle.plan.proofs.ceiling.ceilings_of.Reads as ceilings-of-reads
 
--- src/lib.rt:32:5
 ceilings-of-requires : tie.Need-ceilings-of-requires
 ceilings-of-requires c κs = search needs
 
--- src/lib.rt:29:1
 returns : tie.Need-returns
 unfolding ceiling globalCeiling localCeiling isGlobal declares lengthOf owner level foremost
 returns c = c .ceilings-of .ensures

@@ -1,3 +1,4 @@
+-- Both numbers have at most 42 bits, so the signed difference is theirs.
 use mathlib.Core.Path.{ap₂, _∙_}
 use Prim.Native.Nat.{ℕ}
 use lib.IntN.{pos, _-ℤ_}
@@ -7,35 +8,27 @@ use Rattle.plan.proofs.Bounds.{difference-fits, difference-is}
 use borrow.Author.Needs.{needs}
 use Rattle.plan.proofs.margin.Statement.{statement}
 use Rattle.plan.proofs.margin.Tie as tie
-use Rattle.plan.proofs.margin.Reads as reads
-use Rattle.plan.proofs.margin.Lts as lts
-use Rattle.plan.proofs.admission.demand_of.Reads as demand-of-reads
-use Rattle.plan.proofs.tables.word_at.Reads as word-at-reads
 
--- src/lib.rt:50:9
 demand-of-requires : tie.Need-demand-of-requires
 demand-of-requires c κs = search needs
 
--- src/lib.rt:61:9
 word-at-requires : tie.Need-word-at-requires
 word-at-requires c κs = search needs
 
--- src/lib.rt:62:6
 cast-result : tie.Need-cast-result
 cast-result c = search needs
 
--- src/lib.rt:62:24
 cast-result-2 : tie.Need-cast-result-2
 cast-result-2 c = search needs
 
--- src/lib.rt:62:5
 sub-result : tie.Need-sub-result
 sub-result c = difference-fits (c .word-at .result) (c .before .before .before .before .demand-of .result) (search needs) (search needs)
 
--- src/lib.rt:47:1
 returns : tie.Need-returns
 unfolding margin period
-returns c = difference-is (c .word-at .result) (c .before .before .before .before .demand-of .result) (search needs) (search needs) ∙ ap₂ (λ (m n : ℕ). pos m -ℤ pos n) (c .word-at .ensures) (c .before .before .before .before .demand-of .ensures .0)
+returns c =
+    let c4 = c .before .before .before .before in
+    difference-is (c .word-at .result) (c4 .demand-of .result) (search needs) (search needs) ∙ ap₂ (λ (m n : ℕ). pos m -ℤ pos n) (c .word-at .ensures) (c4 .demand-of .ensures .0)
 
 pub margin-spec : {M : Type 1} → statement M
 margin-spec =

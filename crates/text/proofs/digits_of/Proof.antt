@@ -1,11 +1,11 @@
 -- `text::digits_of` meets its contract. The loop's invariant: what is left, read behind `n`, is the whole, and `n` has at most `i` digits.
 -- The measure is what is left.
 use mathlib.Core.Path.{_≡_, refl, sym, _∙_}
-use Prim.Native.Nat.{ℕ, suc, _+_, _-_, _*_, _^_, _≤_, _<_}
+use Prim.Native.Nat.{_-_, _^_, _<_}
 use native.Mathlib.Nat.{pow-succ', pow-le-pow-right}
 use native.Mathlib.Numerals.{add-one}
 use native.Mathlib.Omega.{arith}
-use lib.ListN.{length, getD, drop}
+use lib.ListN.{length, drop}
 use borrow.Author.Needs.{needs}
 use Rattle.text.specs.Digits.{behind}
 use Rattle.text.proofs.Numbers.{behind-digit, behind-below, behind-above, behind-end}

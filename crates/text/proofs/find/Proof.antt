@@ -1,5 +1,5 @@
 -- `text::find` meets its contract. The loop's invariant: a search from `i` ends where the one from `at` does. The measure is what is left.
-use mathlib.Core.Path.{_≡_, refl, sym, ap, _∙_}
+use mathlib.Core.Path.{_≡_, refl}
 use Prim.Native.Nat.{_+_, _-_}
 use native.Mathlib.Numerals.{add-one}
 use native.Mathlib.Omega.{arith}

@@ -1,3 +1,4 @@
+-- The loop's invariant: the greatest over the resources passed.
 use mathlib.Core.Path.{_≡_, sym}
 use mathlib.Core.List.{[]}
 use Prim.Native.Nat.{_≤_, _-_}
@@ -10,9 +11,6 @@ use Rattle.plan.specs.Plan.{owner, isGlobal, lengthOf, declares, level}
 use Rattle.plan.specs.Lent.{lent, blockingAt, blockingBy}
 use Rattle.plan.proofs.admission.blocking_by.Statement.{statement}
 use Rattle.plan.proofs.admission.blocking_by.Tie as tie
-use Rattle.plan.proofs.admission.blocking_by.Reads as reads
-use Rattle.plan.proofs.admission.blocking_by.Lts as lts
-use Rattle.plan.proofs.admission.blocking_at.Reads as blocking-at-reads
 
 abbrev Inv-loop : tie.InvT-loop
 Inv-loop owners kinds lengths resources s t most₀ r₀ most r = (r ≤ resources) × (most ≡ greatest r (blockingAt (lent 0 0 0 [] [] owners kinds lengths) s t))
@@ -20,28 +18,22 @@ Inv-loop owners kinds lengths resources s t most₀ r₀ most r = (r ≤ resourc
 abbrev μ-loop : tie.MeasureT-loop
 μ-loop owners kinds lengths resources s t most₀ r₀ most r = resources - r
 
--- src/admission.rt:32:5
 loop-holds : tie.Need-loop-holds Inv-loop μ-loop
 loop-holds c = (search needs, sym (greatest-none _))
 
--- src/admission.rt:33:13
 blocking-at-requires : tie.Need-blocking-at-requires Inv-loop μ-loop
 blocking-at-requires c κs = search needs
 
--- src/admission.rt:37:9
 add-r : tie.Need-add-r Inv-loop μ-loop
 add-r c = omega arith
 
--- src/admission.rt:32:5
 loop-less : tie.Need-loop-less Inv-loop μ-loop
 loop-less c = omega arith
 
--- src/admission.rt:32:5
 loop-again : tie.Need-loop-again Inv-loop μ-loop
 loop-again c =
     (search needs, rw greatest-next (⊎-elim (λ w. omega arith) (λ w. omega arith) (c .if1 .came)))
 
--- src/admission.rt:27:1
 returns : tie.Need-returns Inv-loop μ-loop
 unfolding blockingBy blockingAt isGlobal declares lengthOf level owner
 returns c =

@@ -1,3 +1,4 @@
+-- The loop's invariant: the greatest over the tasks passed.
 use mathlib.Core.Path.{_≡_, sym}
 use mathlib.Core.List.{[]}
 use Prim.Native.Nat.{_≤_, _-_}
@@ -11,9 +12,6 @@ use Rattle.plan.specs.Admission.{blocking}
 use Rattle.plan.specs.Lent.{lent, blockingAt, blockingBy}
 use Rattle.plan.proofs.admission.blocking_of.Statement.{statement}
 use Rattle.plan.proofs.admission.blocking_of.Tie as tie
-use Rattle.plan.proofs.admission.blocking_of.Reads as reads
-use Rattle.plan.proofs.admission.blocking_of.Lts as lts
-use Rattle.plan.proofs.admission.blocking_by.Reads as blocking-by-reads
 
 abbrev Inv-loop : tie.InvT-loop
 Inv-loop owners kinds lengths tasks resources s most₀ t₀ most t = (t ≤ tasks) × (most ≡ greatest t (blockingBy (lent 0 0 resources [] [] owners kinds lengths) s))
@@ -21,28 +19,22 @@ Inv-loop owners kinds lengths tasks resources s most₀ t₀ most t = (t ≤ tas
 abbrev μ-loop : tie.MeasureT-loop
 μ-loop owners kinds lengths tasks resources s most₀ t₀ most t = tasks - t
 
--- src/admission.rt:47:5
 loop-holds : tie.Need-loop-holds Inv-loop μ-loop
 loop-holds c = (search needs, sym (greatest-none _))
 
--- src/admission.rt:48:13
 blocking-by-requires : tie.Need-blocking-by-requires Inv-loop μ-loop
 blocking-by-requires c κs = search needs
 
--- src/admission.rt:52:9
 add-t : tie.Need-add-t Inv-loop μ-loop
 add-t c = omega arith
 
--- src/admission.rt:47:5
 loop-less : tie.Need-loop-less Inv-loop μ-loop
 loop-less c = omega arith
 
--- src/admission.rt:47:5
 loop-again : tie.Need-loop-again Inv-loop μ-loop
 loop-again c =
     (search needs, rw greatest-next (⊎-elim (λ w. omega arith) (λ w. omega arith) (c .if1 .came)))
 
--- src/admission.rt:42:1
 returns : tie.Need-returns Inv-loop μ-loop
 unfolding blocking blockingBy blockingAt isGlobal declares lengthOf level owner
 returns c =

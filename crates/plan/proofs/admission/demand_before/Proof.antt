@@ -1,3 +1,4 @@
+-- The loop's invariant: the sum over the rows passed, and a bound of 33 bits for each of them.
 use mathlib.Core.Path.{_≡_, sym}
 use mathlib.Core.List.{[]}
 use Prim.Native.Nat.{_≤_, _-_, _*_, _^_}
@@ -8,9 +9,6 @@ use Rattle.below.proofs.Amounts.{sum-none, sum-next}
 use Rattle.plan.specs.Lent.{lent, demandBy}
 use Rattle.plan.proofs.admission.demand_before.Statement.{statement}
 use Rattle.plan.proofs.admission.demand_before.Tie as tie
-use Rattle.plan.proofs.admission.demand_before.Reads as reads
-use Rattle.plan.proofs.admission.demand_before.Lts as lts
-use Rattle.plan.proofs.admission.demand_by.Reads as demand-by-reads
 
 abbrev Inv-loop : tie.InvT-loop
 Inv-loop periods budgets subsystems s total₀ h₀ total h =
@@ -19,31 +17,24 @@ Inv-loop periods budgets subsystems s total₀ h₀ total h =
 abbrev μ-loop : tie.MeasureT-loop
 μ-loop periods budgets subsystems s total₀ h₀ total h = subsystems - h
 
--- src/admission.rt:86:5
 loop-holds : tie.Need-loop-holds Inv-loop μ-loop
 loop-holds c = (search needs, sym (sum-none _), search needs)
 
--- src/admission.rt:87:18
 demand-by-requires : tie.Need-demand-by-requires Inv-loop μ-loop
 demand-by-requires c κs = search needs
 
--- src/admission.rt:87:9
 add-total : tie.Need-add-total Inv-loop μ-loop
 add-total c = omega arith
 
--- src/admission.rt:88:9
 add-h : tie.Need-add-h Inv-loop μ-loop
 add-h c = omega arith
 
--- src/admission.rt:86:5
 loop-less : tie.Need-loop-less Inv-loop μ-loop
 loop-less c = omega arith
 
--- src/admission.rt:86:5
 loop-again : tie.Need-loop-again Inv-loop μ-loop
 loop-again c = (omega arith, rw sum-next (cc), omega arith)
 
--- src/admission.rt:80:1
 returns : tie.Need-returns Inv-loop μ-loop
 returns c =
     let e : c .before .loop .h ≡ c .before .before .before .before .args .subsystems = omega arith in

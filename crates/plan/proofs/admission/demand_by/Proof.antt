@@ -1,3 +1,4 @@
+-- A budget of 16 bits times a quotient of 17.
 use Prim.Native.Nat.{_*_, _^_, _<_}
 use native.Mathlib.Omega.{arith}
 use borrow.Author.Tests.{le-ltb, lt-ltb}
@@ -7,44 +8,32 @@ use Rattle.plan.proofs.Bounds.{product}
 use borrow.Author.Needs.{needs}
 use Rattle.plan.proofs.admission.demand_by.Statement.{statement}
 use Rattle.plan.proofs.admission.demand_by.Tie as tie
-use Rattle.plan.proofs.admission.demand_by.Reads as reads
-use Rattle.plan.proofs.admission.demand_by.Lts as lts
-use Rattle.plan.proofs.admission.rounded_up.Reads as rounded-up-reads
-use Rattle.plan.proofs.tables.word_at.Reads as word-at-reads
 
--- src/admission.rt:73:9
 returns : tie.Need-returns
 unfolding demandBy level
 returns c = (rw (le-ltb _ _ (c .if1 .taken)), search needs)
 
--- src/admission.rt:75:28
 word-at-requires : tie.Need-word-at-requires
 word-at-requires c κs = search needs
 
--- src/admission.rt:75:58
 word-at-requires-2 : tie.Need-word-at-requires-2
 word-at-requires-2 c κs = search needs
 
--- src/admission.rt:75:9
 rounded-up-requires : tie.Need-rounded-up-requires
 rounded-up-requires c κs = search needs
 
--- src/admission.rt:76:6
 word-at-requires-3 : tie.Need-word-at-requires-3
 word-at-requires-3 c κs = search needs
 
--- src/admission.rt:76:6
 cast-result : tie.Need-cast-result
 cast-result c = search needs
 
 small : (c : tie.After-word-at3) → c .word-at3 .result * c .before .rounded-up .result < 2 ^ 33
 small c = product 16 17 (search needs) (c .before .rounded-up .ensures .1)
 
--- src/admission.rt:76:5
 mul-result : tie.Need-mul-result
 mul-result c = omega (arith, small c)
 
--- src/admission.rt:68:1
 returns-2 : tie.Need-returns-2
 unfolding demandBy level period budget
 returns-2 c =

@@ -1,3 +1,4 @@
+-- A quotient by 0 is 0, and any other is at most its dividend, which has 17 bits.
 use mathlib.Core.Path.{refl, sym}
 use native.Mathlib.Nat.{div-zero, div-le-self, lt-of-le-of-lt}
 use native.Mathlib.Omega.{arith}
@@ -5,27 +6,20 @@ use Rattle.below.specs.Quotient.{roundedUp}
 use borrow.Author.Needs.{needs}
 use Rattle.plan.proofs.admission.rounded_up.Statement.{statement}
 use Rattle.plan.proofs.admission.rounded_up.Tie as tie
-use Rattle.plan.proofs.admission.rounded_up.Reads as reads
-use Rattle.plan.proofs.admission.rounded_up.Lts as lts
 
--- src/admission.rt:63:9
 returns : tie.Need-returns
 unfolding roundedUp
 returns c = (rw (c .if1 .taken) (sym (div-zero _)), search needs)
 
--- src/admission.rt:65:20
 sub-result : tie.Need-sub-result
 sub-result c = search needs
 
--- src/admission.rt:65:6
 add-result : tie.Need-add-result
 add-result c = search needs
 
--- src/admission.rt:65:5
 div-result : tie.Need-div-result
 div-result c = search needs
 
--- src/admission.rt:58:1
 returns-2 : tie.Need-returns-2
 unfolding roundedUp
 returns-2 c = (refl, lt-of-le-of-lt (div-le-self _ _) (omega arith))

@@ -1,34 +1,24 @@
-use native.Mathlib.Omega.{arith}
+-- By the kind of the resource.
 use borrow.Author.Tests.{eq-eqb, ne-eqb}
 use Rattle.plan.specs.Plan.{owner, isGlobal, lengthOf, declares, level, foremost}
 use Rattle.plan.specs.Ceiling.{ceiling, globalCeiling, localCeiling}
 use borrow.Author.Needs.{needs}
 use Rattle.plan.proofs.ceiling.ceiling_of.Statement.{statement}
 use Rattle.plan.proofs.ceiling.ceiling_of.Tie as tie
-use Rattle.plan.proofs.ceiling.ceiling_of.Reads as reads
-use Rattle.plan.proofs.ceiling.ceiling_of.Lts as lts
-use Rattle.plan.proofs.ceiling.global_ceiling.Reads as global-ceiling-reads
-use Rattle.plan.proofs.ceiling.local_ceiling.Reads as local-ceiling-reads
-use Rattle.plan.proofs.tables.byte_at.Reads as byte-at-reads
 
--- src/ceiling.rt:60:8
 byte-at-requires : tie.Need-byte-at-requires
 byte-at-requires c κs = search needs
 
--- src/ceiling.rt:61:9
 global-ceiling-requires : tie.Need-global-ceiling-requires
 global-ceiling-requires c κs = search needs
 
--- src/ceiling.rt:61:9
 returns : tie.Need-returns
 unfolding ceiling isGlobal globalCeiling declares lengthOf owner level
 returns c = rw (← c .before .before .byte-at .ensures, eq-eqb _ _ (c .before .if1 .taken)) (c .global-ceiling .ensures)
 
--- src/ceiling.rt:63:5
 local-ceiling-requires : tie.Need-local-ceiling-requires
 local-ceiling-requires c κs = search needs
 
--- src/ceiling.rt:57:1
 returns-2 : tie.Need-returns-2
 unfolding ceiling isGlobal localCeiling declares lengthOf foremost
 returns-2 c = rw (← c .before .before .byte-at .ensures, ne-eqb _ _ (c .before .if1 .left)) (c .local-ceiling .ensures)

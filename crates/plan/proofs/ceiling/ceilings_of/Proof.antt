@@ -1,3 +1,4 @@
+-- The loop's invariant: the entries passed are the ceilings.
 use native.Mathlib.Omega.{arith}
 use borrow.Author.Needs.{needs}
 use mathlib.Core.Path.{_≡_}
@@ -10,9 +11,6 @@ use Rattle.plan.specs.Ceiling.{ceiling}
 use Rattle.plan.specs.Lent.{lent}
 use Rattle.plan.proofs.ceiling.ceilings_of.Statement.{statement}
 use Rattle.plan.proofs.ceiling.ceilings_of.Tie as tie
-use Rattle.plan.proofs.ceiling.ceilings_of.Reads as reads
-use Rattle.plan.proofs.ceiling.ceilings_of.Lts as lts
-use Rattle.plan.proofs.ceiling.ceiling_of.Reads as ceiling-of-reads
 
 abbrev Inv-loop : tie.InvT-loop
 Inv-loop owners kinds lengths subsystems tasks all₀ r₀ all r = (r ≤ 16) × (length all ≡ 16) × ((k : ℕ) → k < r → getD all k 0 ≡ ceiling (lent subsystems tasks 0 [] [] owners kinds lengths) k)
@@ -20,37 +18,29 @@ Inv-loop owners kinds lengths subsystems tasks all₀ r₀ all r = (r ≤ 16) ×
 abbrev μ-loop : tie.MeasureT-loop
 μ-loop owners kinds lengths subsystems tasks all₀ r₀ all r = 16 - r
 
--- src/ceiling.rt:71:5
 loop-holds : tie.Need-loop-holds Inv-loop μ-loop
 loop-holds c = (search needs, search needs, below-none _)
 
--- src/ceiling.rt:72:27
 ceiling-of-requires : tie.Need-ceiling-of-requires Inv-loop μ-loop
 ceiling-of-requires c κs = search needs
 
--- src/ceiling.rt:72:13
 cast-all : tie.Need-cast-all Inv-loop μ-loop
 cast-all c = omega arith
 
--- src/ceiling.rt:72:9
 array-write-all : tie.Need-array-write-all Inv-loop μ-loop
 array-write-all c = omega arith
 
--- src/ceiling.rt:73:9
 add-r : tie.Need-add-r Inv-loop μ-loop
 add-r c = omega arith
 
--- src/ceiling.rt:71:5
 loop-less : tie.Need-loop-less Inv-loop μ-loop
 loop-less c = omega arith
 
--- src/ceiling.rt:71:5
 loop-again : tie.Need-loop-again Inv-loop μ-loop
 loop-again c =
     let h : c .before .before .loop .r < length (c .before .before .loop .all) = omega arith in
     (omega arith, search needs, filled-next _ 0 (c .before .before .loop .all) _ _ h (c .ceiling-of .ensures) (c .before .before .loop .inv .2))
 
--- src/ceiling.rt:66:1
 returns : tie.Need-returns Inv-loop μ-loop
 returns c = filled-ended _ _ _ 0 (c .before .loop .all) (c .loop-test .left) (c .before .loop .inv .1) (c .before .loop .inv .2)
 

@@ -1,3 +1,4 @@
+-- The loop's invariant: no task passed is of this level and declares the resource.
 use native.Mathlib.Omega.{arith}
 use borrow.Author.Needs.{needs}
 use mathlib.Core.Path.{_≡_, sym, _∙_}
@@ -10,9 +11,6 @@ use Rattle.plan.specs.Plan.{owner, lengthOf, declares, level}
 use Rattle.plan.specs.Lent.{lent, declaresAt, declaredAt}
 use Rattle.plan.proofs.ceiling.declared_at.Statement.{statement}
 use Rattle.plan.proofs.ceiling.declared_at.Tie as tie
-use Rattle.plan.proofs.ceiling.declared_at.Reads as reads
-use Rattle.plan.proofs.ceiling.declared_at.Lts as lts
-use Rattle.plan.proofs.ceiling.declares_at.Reads as declares-at-reads
 
 abbrev Inv-loop : tie.InvT-loop
 Inv-loop owners lengths tasks r l t₀ t = (t ≤ tasks) × ((k : ℕ) → k < t → declaresAt (lent 0 0 0 [] [] owners [] lengths) r l k ≡ false)
@@ -20,32 +18,25 @@ Inv-loop owners lengths tasks r l t₀ t = (t ≤ tasks) × ((k : ℕ) → k < t
 abbrev μ-loop : tie.MeasureT-loop
 μ-loop owners lengths tasks r l t₀ t = tasks - t
 
--- src/ceiling.rt:35:5
 loop-holds : tie.Need-loop-holds Inv-loop μ-loop
 loop-holds c = (search needs, below-none _)
 
--- src/ceiling.rt:36:12
 declares-at-requires : tie.Need-declares-at-requires Inv-loop μ-loop
 declares-at-requires c κs = search needs
 
--- src/ceiling.rt:37:13
 returns : tie.Need-returns Inv-loop μ-loop
 unfolding declaredAt declaresAt owner level declares lengthOf
 returns c = any-left _ _ _ (c .before .before .loop-test .taken) (sym (c .before .declares-at .ensures) ∙ c .if1 .taken)
 
--- src/ceiling.rt:39:9
 add-t : tie.Need-add-t Inv-loop μ-loop
 add-t c = omega arith
 
--- src/ceiling.rt:35:5
 loop-less : tie.Need-loop-less Inv-loop μ-loop
 loop-less c = omega arith
 
--- src/ceiling.rt:35:5
 loop-again : tie.Need-loop-again Inv-loop μ-loop
 loop-again c = (omega arith, below-more _ _ (c .before .before .before .loop .inv .1) (sym (c .before .declares-at .ensures) ∙ c .if1 .left))
 
--- src/ceiling.rt:31:1
 returns-2 : tie.Need-returns-2 Inv-loop μ-loop
 unfolding declaredAt declaresAt owner level declares lengthOf
 returns-2 c = any-ended _ _ _ (c .loop-test .left) (c .before .loop .inv .1)

@@ -1,29 +1,21 @@
-use native.Mathlib.Omega.{arith}
+-- The two tests that the definition joins.
 use borrow.Author.Tests.{eq-eqb, ne-eqb}
 use Rattle.plan.specs.Plan.{owner, lengthOf, declares, level}
 use Rattle.plan.specs.Lent.{declaresAt}
 use borrow.Author.Needs.{needs}
 use Rattle.plan.proofs.ceiling.declares_at.Statement.{statement}
 use Rattle.plan.proofs.ceiling.declares_at.Tie as tie
-use Rattle.plan.proofs.ceiling.declares_at.Reads as reads
-use Rattle.plan.proofs.ceiling.declares_at.Lts as lts
-use Rattle.plan.proofs.tables.byte_at.Reads as byte-at-reads
-use Rattle.plan.proofs.tables.length_at.Reads as length-at-reads
 
--- src/ceiling.rt:25:8
 byte-at-requires : tie.Need-byte-at-requires
 byte-at-requires c κs = search needs
 
--- src/ceiling.rt:26:9
 returns : tie.Need-returns
 unfolding declaresAt owner level
 returns c = rw (← c .before .byte-at .ensures, ne-eqb _ _ (c .if1 .taken))
 
--- src/ceiling.rt:28:5
 length-at-requires : tie.Need-length-at-requires
 length-at-requires c κs = search needs
 
--- src/ceiling.rt:22:1
 returns-2 : tie.Need-returns-2
 unfolding declaresAt owner level declares lengthOf
 returns-2 c = rw (← c .before .before .byte-at .ensures, eq-eqb _ _ (c .before .if1 .left), ← c .length-at .ensures)

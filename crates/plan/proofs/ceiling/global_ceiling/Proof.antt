@@ -1,3 +1,4 @@
+-- The loop's invariant: no level passed has a task that declares the resource.
 use native.Mathlib.Omega.{arith}
 use borrow.Author.Needs.{needs}
 use mathlib.Core.Path.{_≡_, sym, _∙_}
@@ -11,9 +12,6 @@ use Rattle.plan.specs.Ceiling.{globalCeiling}
 use Rattle.plan.specs.Lent.{lent, declaresAt, declaredAt}
 use Rattle.plan.proofs.ceiling.global_ceiling.Statement.{statement}
 use Rattle.plan.proofs.ceiling.global_ceiling.Tie as tie
-use Rattle.plan.proofs.ceiling.global_ceiling.Reads as reads
-use Rattle.plan.proofs.ceiling.global_ceiling.Lts as lts
-use Rattle.plan.proofs.ceiling.declared_at.Reads as declared-at-reads
 
 abbrev Inv-loop : tie.InvT-loop
 Inv-loop owners lengths subsystems tasks r l₀ l = (l ≤ subsystems) × ((k : ℕ) → k < l → declaredAt (lent 0 tasks 0 [] [] owners [] lengths) r k ≡ false)
@@ -21,32 +19,25 @@ Inv-loop owners lengths subsystems tasks r l₀ l = (l ≤ subsystems) × ((k : 
 abbrev μ-loop : tie.MeasureT-loop
 μ-loop owners lengths subsystems tasks r l₀ l = subsystems - l
 
--- src/ceiling.rt:48:5
 loop-holds : tie.Need-loop-holds Inv-loop μ-loop
 loop-holds c = (search needs, below-none _)
 
--- src/ceiling.rt:49:12
 declared-at-requires : tie.Need-declared-at-requires Inv-loop μ-loop
 declared-at-requires c κs = search needs
 
--- src/ceiling.rt:50:13
 returns : tie.Need-returns Inv-loop μ-loop
 unfolding globalCeiling declaredAt declaresAt owner level declares lengthOf
 returns c = first-left _ _ _ (c .before .before .loop-test .taken) (sym (c .before .declared-at .ensures) ∙ c .if1 .taken) (c .before .before .before .loop .inv .1)
 
--- src/ceiling.rt:52:9
 add-l : tie.Need-add-l Inv-loop μ-loop
 add-l c = omega arith
 
--- src/ceiling.rt:48:5
 loop-less : tie.Need-loop-less Inv-loop μ-loop
 loop-less c = omega arith
 
--- src/ceiling.rt:48:5
 loop-again : tie.Need-loop-again Inv-loop μ-loop
 loop-again c = (omega arith, below-more _ _ (c .before .before .before .loop .inv .1) (sym (c .before .declared-at .ensures) ∙ c .if1 .left))
 
--- src/ceiling.rt:44:1
 returns-2 : tie.Need-returns-2 Inv-loop μ-loop
 unfolding globalCeiling declaredAt declaresAt owner level declares lengthOf
 returns-2 c = first-ended _ _ _ (c .before .loop .inv .0) (c .loop-test .left) (c .before .loop .inv .1)

@@ -1,3 +1,4 @@
+-- The loop's invariant: no task passed declares the resource.
 use native.Mathlib.Omega.{arith}
 use borrow.Author.Needs.{needs}
 use mathlib.Core.Path.{_≡_}
@@ -12,9 +13,6 @@ use Rattle.plan.specs.Ceiling.{localCeiling}
 use Rattle.plan.specs.Lent.{lent}
 use Rattle.plan.proofs.ceiling.local_ceiling.Statement.{statement}
 use Rattle.plan.proofs.ceiling.local_ceiling.Tie as tie
-use Rattle.plan.proofs.ceiling.local_ceiling.Reads as reads
-use Rattle.plan.proofs.ceiling.local_ceiling.Lts as lts
-use Rattle.plan.proofs.tables.length_at.Reads as length-at-reads
 
 abbrev Inv-loop : tie.InvT-loop
 Inv-loop lengths tasks r t₀ t = (t ≤ tasks) × ((k : ℕ) → k < t → declares (lent 0 0 0 [] [] [] [] lengths) k r ≡ false)
@@ -22,33 +20,33 @@ Inv-loop lengths tasks r t₀ t = (t ≤ tasks) × ((k : ℕ) → k < t → decl
 abbrev μ-loop : tie.MeasureT-loop
 μ-loop lengths tasks r t₀ t = tasks - t
 
--- src/ceiling.rt:13:5
 loop-holds : tie.Need-loop-holds Inv-loop μ-loop
 loop-holds c = (search needs, below-none _)
 
--- src/ceiling.rt:14:12
 length-at-requires : tie.Need-length-at-requires Inv-loop μ-loop
 length-at-requires c κs = search needs
 
--- src/ceiling.rt:15:13
 returns : tie.Need-returns Inv-loop μ-loop
 unfolding localCeiling foremost declares lengthOf
-returns c = first-left _ _ _ (c .before .before .loop-test .taken) (rw (← c .before .length-at .ensures, ne-eqb _ _ (c .if1 .taken))) (c .before .before .before .loop .inv .1)
+returns c =
+    let c1 = c .before in
+    let c2 = c1 .before in
+    let c3 = c2 .before in
+    first-left _ _ _ (c2 .loop-test .taken) (rw (← c1 .length-at .ensures, ne-eqb _ _ (c .if1 .taken))) (c3 .loop .inv .1)
 
--- src/ceiling.rt:17:9
 add-t : tie.Need-add-t Inv-loop μ-loop
 add-t c = omega arith
 
--- src/ceiling.rt:13:5
 loop-less : tie.Need-loop-less Inv-loop μ-loop
 loop-less c = omega arith
 
--- src/ceiling.rt:13:5
 loop-again : tie.Need-loop-again Inv-loop μ-loop
 unfolding declares lengthOf
-loop-again c = (omega arith, below-more _ _ (c .before .before .before .loop .inv .1) (rw (← c .before .length-at .ensures, eq-eqb _ _ (c .if1 .left))))
+loop-again c =
+    let c1 = c .before in
+    let c3 = c1 .before .before in
+    (omega arith, below-more _ _ (c3 .loop .inv .1) (rw (← c1 .length-at .ensures, eq-eqb _ _ (c .if1 .left))))
 
--- src/ceiling.rt:9:1
 returns-2 : tie.Need-returns-2 Inv-loop μ-loop
 unfolding localCeiling foremost declares lengthOf
 returns-2 c = first-ended _ _ _ (c .before .loop .inv .0) (c .loop-test .left) (c .before .loop .inv .1)

@@ -1,26 +1,21 @@
-use borrow.Author.Tests.{eq-eqb, ne-eqb, le-leb, lt-leb, le-ltb, lt-ltb}
+-- Each test on the way is one of those that the definition joins.
+use borrow.Author.Tests.{le-leb, lt-leb}
 use Rattle.plan.specs.Accepted.{countsFit}
 use Rattle.plan.proofs.rows.counts_fit.Statement.{statement}
 use Rattle.plan.proofs.rows.counts_fit.Tie as tie
-use Rattle.plan.proofs.rows.counts_fit.Reads as reads
-use Rattle.plan.proofs.rows.counts_fit.Lts as lts
 
--- src/rows.rt:16:9
 returns : tie.Need-returns
 unfolding countsFit
 returns c = rw (lt-leb _ _ (c .if1 .taken))
 
--- src/rows.rt:19:9
 returns-2 : tie.Need-returns-2
 unfolding countsFit
 returns-2 c = rw (le-leb _ _ (c .before .if1 .left), lt-leb _ _ (c .if2 .taken))
 
--- src/rows.rt:22:9
 returns-3 : tie.Need-returns-3
 unfolding countsFit
 returns-3 c = rw (le-leb _ _ (c .before .before .if1 .left), le-leb _ _ (c .before .if2 .left), lt-leb _ _ (c .if3 .taken))
 
--- src/rows.rt:12:1
 returns-4 : tie.Need-returns-4
 unfolding countsFit
 returns-4 c = rw (le-leb _ _ (c .before .before .if1 .left), le-leb _ _ (c .before .if2 .left), le-leb _ _ (c .if3 .left))

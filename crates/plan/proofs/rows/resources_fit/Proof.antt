@@ -1,3 +1,4 @@
+-- The loop's invariant: every row passed fits.
 use native.Mathlib.Omega.{arith}
 use borrow.Author.Needs.{needs}
 use mathlib.Core.Path.{_≡_, sym, _∙_}
@@ -11,9 +12,6 @@ use Rattle.plan.specs.Accepted.{resourceFits}
 use Rattle.plan.specs.Lent.{lent}
 use Rattle.plan.proofs.rows.resources_fit.Statement.{statement}
 use Rattle.plan.proofs.rows.resources_fit.Tie as tie
-use Rattle.plan.proofs.rows.resources_fit.Reads as reads
-use Rattle.plan.proofs.rows.resources_fit.Lts as lts
-use Rattle.plan.proofs.rows.resource_fits.Reads as resource-fits-reads
 
 abbrev Inv-loop : tie.InvT-loop
 Inv-loop kinds resources r₀ r = (r ≤ 16) × ((k : ℕ) → k < r → resourceFits (lent 0 0 resources [] [] [] kinds []) k ≡ true)
@@ -21,31 +19,24 @@ Inv-loop kinds resources r₀ r = (r ≤ 16) × ((k : ℕ) → k < r → resourc
 abbrev μ-loop : tie.MeasureT-loop
 μ-loop kinds resources r₀ r = 16 - r
 
--- src/rows.rt:109:5
 loop-holds : tie.Need-loop-holds Inv-loop μ-loop
 loop-holds c = (search needs, below-none _)
 
--- src/rows.rt:110:13
 resource-fits-requires : tie.Need-resource-fits-requires Inv-loop μ-loop
 resource-fits-requires c κs = search needs
 
--- src/rows.rt:111:13
 returns : tie.Need-returns Inv-loop μ-loop
 returns c = all-left _ _ _ (c .before .before .loop-test .taken) (sym (c .before .resource-fits .ensures) ∙ not-true _ (c .if1 .taken))
 
--- src/rows.rt:113:9
 add-r : tie.Need-add-r Inv-loop μ-loop
 add-r c = omega arith
 
--- src/rows.rt:109:5
 loop-less : tie.Need-loop-less Inv-loop μ-loop
 loop-less c = omega arith
 
--- src/rows.rt:109:5
 loop-again : tie.Need-loop-again Inv-loop μ-loop
 loop-again c = (omega arith, below-more _ _ (c .before .before .before .loop .inv .1) (sym (c .before .resource-fits .ensures) ∙ not-false _ (c .if1 .left)))
 
--- src/rows.rt:105:1
 returns-2 : tie.Need-returns-2 Inv-loop μ-loop
 returns-2 c = all-ended _ _ _ (c .loop-test .left) (c .before .loop .inv .1)
 

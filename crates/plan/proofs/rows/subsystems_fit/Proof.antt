@@ -1,3 +1,4 @@
+-- The loop's invariant: every row passed fits.
 use native.Mathlib.Omega.{arith}
 use borrow.Author.Needs.{needs}
 use mathlib.Core.Path.{_≡_, sym, _∙_}
@@ -11,9 +12,6 @@ use Rattle.plan.specs.Accepted.{subsystemFits}
 use Rattle.plan.specs.Lent.{lent}
 use Rattle.plan.proofs.rows.subsystems_fit.Statement.{statement}
 use Rattle.plan.proofs.rows.subsystems_fit.Tie as tie
-use Rattle.plan.proofs.rows.subsystems_fit.Reads as reads
-use Rattle.plan.proofs.rows.subsystems_fit.Lts as lts
-use Rattle.plan.proofs.rows.subsystem_fits.Reads as subsystem-fits-reads
 
 abbrev Inv-loop : tie.InvT-loop
 Inv-loop periods budgets subsystems s₀ s = (s ≤ 8) × ((k : ℕ) → k < s → subsystemFits (lent subsystems 0 0 periods budgets [] [] []) k ≡ true)
@@ -21,31 +19,24 @@ Inv-loop periods budgets subsystems s₀ s = (s ≤ 8) × ((k : ℕ) → k < s �
 abbrev μ-loop : tie.MeasureT-loop
 μ-loop periods budgets subsystems s₀ s = 8 - s
 
--- src/rows.rt:57:5
 loop-holds : tie.Need-loop-holds Inv-loop μ-loop
 loop-holds c = (search needs, below-none _)
 
--- src/rows.rt:58:13
 subsystem-fits-requires : tie.Need-subsystem-fits-requires Inv-loop μ-loop
 subsystem-fits-requires c κs = search needs
 
--- src/rows.rt:59:13
 returns : tie.Need-returns Inv-loop μ-loop
 returns c = all-left _ _ _ (c .before .before .loop-test .taken) (sym (c .before .subsystem-fits .ensures) ∙ not-true _ (c .if1 .taken))
 
--- src/rows.rt:61:9
 add-s : tie.Need-add-s Inv-loop μ-loop
 add-s c = omega arith
 
--- src/rows.rt:57:5
 loop-less : tie.Need-loop-less Inv-loop μ-loop
 loop-less c = omega arith
 
--- src/rows.rt:57:5
 loop-again : tie.Need-loop-again Inv-loop μ-loop
 loop-again c = (omega arith, below-more _ _ (c .before .before .before .loop .inv .1) (sym (c .before .subsystem-fits .ensures) ∙ not-false _ (c .if1 .left)))
 
--- src/rows.rt:53:1
 returns-2 : tie.Need-returns-2 Inv-loop μ-loop
 returns-2 c = all-ended _ _ _ (c .loop-test .left) (c .before .loop .inv .1)
 

@@ -1,3 +1,4 @@
+-- The loop's invariant: every row passed fits.
 use native.Mathlib.Omega.{arith}
 use borrow.Author.Needs.{needs}
 use mathlib.Core.Path.{_≡_, sym, _∙_}
@@ -11,9 +12,6 @@ use Rattle.plan.specs.Accepted.{taskFits}
 use Rattle.plan.specs.Lent.{lent}
 use Rattle.plan.proofs.rows.tasks_fit.Statement.{statement}
 use Rattle.plan.proofs.rows.tasks_fit.Tie as tie
-use Rattle.plan.proofs.rows.tasks_fit.Reads as reads
-use Rattle.plan.proofs.rows.tasks_fit.Lts as lts
-use Rattle.plan.proofs.rows.task_fits.Reads as task-fits-reads
 
 abbrev Inv-loop : tie.InvT-loop
 Inv-loop owners subsystems tasks t₀ t = (t ≤ 32) × ((k : ℕ) → k < t → taskFits (lent subsystems tasks 0 [] [] owners [] []) k ≡ true)
@@ -21,31 +19,24 @@ Inv-loop owners subsystems tasks t₀ t = (t ≤ 32) × ((k : ℕ) → k < t →
 abbrev μ-loop : tie.MeasureT-loop
 μ-loop owners subsystems tasks t₀ t = 32 - t
 
--- src/rows.rt:83:5
 loop-holds : tie.Need-loop-holds Inv-loop μ-loop
 loop-holds c = (search needs, below-none _)
 
--- src/rows.rt:84:13
 task-fits-requires : tie.Need-task-fits-requires Inv-loop μ-loop
 task-fits-requires c κs = search needs
 
--- src/rows.rt:85:13
 returns : tie.Need-returns Inv-loop μ-loop
 returns c = all-left _ _ _ (c .before .before .loop-test .taken) (sym (c .before .task-fits .ensures) ∙ not-true _ (c .if1 .taken))
 
--- src/rows.rt:87:9
 add-t : tie.Need-add-t Inv-loop μ-loop
 add-t c = omega arith
 
--- src/rows.rt:83:5
 loop-less : tie.Need-loop-less Inv-loop μ-loop
 loop-less c = omega arith
 
--- src/rows.rt:83:5
 loop-again : tie.Need-loop-again Inv-loop μ-loop
 loop-again c = (omega arith, below-more _ _ (c .before .before .before .loop .inv .1) (sym (c .before .task-fits .ensures) ∙ not-false _ (c .if1 .left)))
 
--- src/rows.rt:79:1
 returns-2 : tie.Need-returns-2 Inv-loop μ-loop
 returns-2 c = all-ended _ _ _ (c .loop-test .left) (c .before .loop .inv .1)
 

@@ -1,3 +1,4 @@
+-- The loop's invariant: every task passed that declares the resource is of the subsystem.
 use native.Mathlib.Omega.{arith}
 use borrow.Author.Needs.{needs}
 use mathlib.Core.Path.{_≡_, sym, _∙_}
@@ -10,9 +11,6 @@ use Rattle.below.proofs.Loops.{all-left, all-ended}
 use Rattle.plan.specs.Lent.{lent, usedFrom}
 use Rattle.plan.proofs.uses.all_used_from.Statement.{statement}
 use Rattle.plan.proofs.uses.all_used_from.Tie as tie
-use Rattle.plan.proofs.uses.all_used_from.Reads as reads
-use Rattle.plan.proofs.uses.all_used_from.Lts as lts
-use Rattle.plan.proofs.uses.used_from.Reads as used-from-reads
 
 abbrev Inv-loop : tie.InvT-loop
 Inv-loop owners lengths tasks r s t₀ t = (t ≤ tasks) × ((k : ℕ) → k < t → usedFrom (lent 0 0 0 [] [] owners [] lengths) r s k ≡ true)
@@ -20,31 +18,24 @@ Inv-loop owners lengths tasks r s t₀ t = (t ≤ tasks) × ((k : ℕ) → k < t
 abbrev μ-loop : tie.MeasureT-loop
 μ-loop owners lengths tasks r s t₀ t = tasks - t
 
--- src/uses.rt:88:5
 loop-holds : tie.Need-loop-holds Inv-loop μ-loop
 loop-holds c = (search needs, below-none _)
 
--- src/uses.rt:89:13
 used-from-requires : tie.Need-used-from-requires Inv-loop μ-loop
 used-from-requires c κs = search needs
 
--- src/uses.rt:90:13
 returns : tie.Need-returns Inv-loop μ-loop
 returns c = all-left _ _ _ (c .before .before .loop-test .taken) (sym (c .before .used-from .ensures) ∙ not-true _ (c .if1 .taken))
 
--- src/uses.rt:92:9
 add-t : tie.Need-add-t Inv-loop μ-loop
 add-t c = omega arith
 
--- src/uses.rt:88:5
 loop-less : tie.Need-loop-less Inv-loop μ-loop
 loop-less c = omega arith
 
--- src/uses.rt:88:5
 loop-again : tie.Need-loop-again Inv-loop μ-loop
 loop-again c = (omega arith, below-more _ _ (c .before .before .before .loop .inv .1) (sym (c .before .used-from .ensures) ∙ not-false _ (c .if1 .left)))
 
--- src/uses.rt:84:1
 returns-2 : tie.Need-returns-2 Inv-loop μ-loop
 returns-2 c = all-ended _ _ _ (c .loop-test .left) (c .before .loop .inv .1)
 

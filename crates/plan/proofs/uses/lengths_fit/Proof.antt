@@ -1,3 +1,4 @@
+-- The loop's invariant: every task passed has fitting lengths.
 use native.Mathlib.Omega.{arith}
 use borrow.Author.Needs.{needs}
 use mathlib.Core.Path.{_≡_, sym, _∙_}
@@ -10,9 +11,6 @@ use Rattle.below.proofs.Loops.{all-left, all-ended}
 use Rattle.plan.specs.Lent.{lent, taskUsesFit}
 use Rattle.plan.proofs.uses.lengths_fit.Statement.{statement}
 use Rattle.plan.proofs.uses.lengths_fit.Tie as tie
-use Rattle.plan.proofs.uses.lengths_fit.Reads as reads
-use Rattle.plan.proofs.uses.lengths_fit.Lts as lts
-use Rattle.plan.proofs.uses.task_uses_fit.Reads as task-uses-fit-reads
 
 abbrev Inv-loop : tie.InvT-loop
 Inv-loop budgets owners kinds lengths tasks resources t₀ t = (t ≤ 32) × ((k : ℕ) → k < t → taskUsesFit (lent 0 tasks resources [] budgets owners kinds lengths) k ≡ true)
@@ -20,31 +18,24 @@ Inv-loop budgets owners kinds lengths tasks resources t₀ t = (t ≤ 32) × ((k
 abbrev μ-loop : tie.MeasureT-loop
 μ-loop budgets owners kinds lengths tasks resources t₀ t = 32 - t
 
--- src/uses.rt:66:5
 loop-holds : tie.Need-loop-holds Inv-loop μ-loop
 loop-holds c = (search needs, below-none _)
 
--- src/uses.rt:67:13
 task-uses-fit-requires : tie.Need-task-uses-fit-requires Inv-loop μ-loop
 task-uses-fit-requires c κs = search needs
 
--- src/uses.rt:68:13
 returns : tie.Need-returns Inv-loop μ-loop
 returns c = all-left _ _ _ (c .before .before .loop-test .taken) (sym (c .before .task-uses-fit .ensures) ∙ not-true _ (c .if1 .taken))
 
--- src/uses.rt:70:9
 add-t : tie.Need-add-t Inv-loop μ-loop
 add-t c = omega arith
 
--- src/uses.rt:66:5
 loop-less : tie.Need-loop-less Inv-loop μ-loop
 loop-less c = omega arith
 
--- src/uses.rt:66:5
 loop-again : tie.Need-loop-again Inv-loop μ-loop
 loop-again c = (omega arith, below-more _ _ (c .before .before .before .loop .inv .1) (sym (c .before .task-uses-fit .ensures) ∙ not-false _ (c .if1 .left)))
 
--- src/uses.rt:62:1
 returns-2 : tie.Need-returns-2 Inv-loop μ-loop
 returns-2 c = all-ended _ _ _ (c .loop-test .left) (c .before .loop .inv .1)
 

@@ -1,8 +1,9 @@
+-- One pass from the first task that declares the resource is as good as all pairs.
 use mathlib.Core.Path.{_≡_, _∙_}
 use mathlib.Core.Bool.{false}
 use mathlib.Core.List.{[]}
 use denote.Ref.{now}
-use borrow.Author.Tests.{eq-eqb, ne-eqb, le-leb, lt-leb, le-ltb, lt-ltb}
+use borrow.Author.Tests.{eq-eqb, ne-eqb}
 use Rattle.plan.specs.Plan.{owner, isGlobal, lengthOf, declares, foremost}
 use Rattle.plan.specs.Accepted.{oneSubsystem}
 use Rattle.plan.specs.Ceiling.{localCeiling}
@@ -11,38 +12,26 @@ use Rattle.plan.proofs.OneSubsystem.{one-pass}
 use borrow.Author.Needs.{needs}
 use Rattle.plan.proofs.uses.one_subsystem.Statement.{statement}
 use Rattle.plan.proofs.uses.one_subsystem.Tie as tie
-use Rattle.plan.proofs.uses.one_subsystem.Reads as reads
-use Rattle.plan.proofs.uses.one_subsystem.Lts as lts
-use Rattle.plan.proofs.ceiling.local_ceiling.Reads as local-ceiling-reads
-use Rattle.plan.proofs.tables.byte_at.Reads as byte-at-reads
-use Rattle.plan.proofs.uses.all_used_from.Reads as all-used-from-reads
 
--- src/uses.rt:101:8
 byte-at-requires : tie.Need-byte-at-requires
 byte-at-requires c κs = search needs
 
--- src/uses.rt:102:9
 returns : tie.Need-returns
 unfolding oneSubsystem isGlobal
 returns c = rw (← c .before .byte-at .ensures, eq-eqb _ _ (c .if1 .taken))
 
--- src/uses.rt:104:9
 local-ceiling-requires : tie.Need-local-ceiling-requires
 local-ceiling-requires c κs = search needs
 
--- src/uses.rt:105:29
 cast-byte-at : tie.Need-cast-byte-at
 cast-byte-at c = search needs
 
--- src/uses.rt:105:9
 byte-at-requires-2 : tie.Need-byte-at-requires-2
 byte-at-requires-2 c κs = search needs
 
--- src/uses.rt:106:5
 all-used-from-requires : tie.Need-all-used-from-requires
 all-used-from-requires c κs = search needs
 
--- src/uses.rt:98:1
 returns-2 : tie.Need-returns-2
 unfolding isGlobal usedFrom declares lengthOf owner localCeiling foremost
 returns-2 c =

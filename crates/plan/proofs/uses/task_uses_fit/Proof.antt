@@ -1,3 +1,4 @@
+-- The loop's invariant: the task's length at every resource passed fits.
 use native.Mathlib.Omega.{arith}
 use borrow.Author.Needs.{needs}
 use mathlib.Core.Path.{_≡_, sym, _∙_}
@@ -11,9 +12,6 @@ use Rattle.plan.specs.Accepted.{useFits}
 use Rattle.plan.specs.Lent.{lent, taskUsesFit}
 use Rattle.plan.proofs.uses.task_uses_fit.Statement.{statement}
 use Rattle.plan.proofs.uses.task_uses_fit.Tie as tie
-use Rattle.plan.proofs.uses.task_uses_fit.Reads as reads
-use Rattle.plan.proofs.uses.task_uses_fit.Lts as lts
-use Rattle.plan.proofs.uses.use_fits.Reads as use-fits-reads
 
 abbrev Inv-loop : tie.InvT-loop
 Inv-loop budgets owners kinds lengths tasks resources t r₀ r = (r ≤ 16) × ((k : ℕ) → k < r → useFits (lent 0 tasks resources [] budgets owners kinds lengths) t k ≡ true)
@@ -21,32 +19,25 @@ Inv-loop budgets owners kinds lengths tasks resources t r₀ r = (r ≤ 16) × (
 abbrev μ-loop : tie.MeasureT-loop
 μ-loop budgets owners kinds lengths tasks resources t r₀ r = 16 - r
 
--- src/uses.rt:53:5
 loop-holds : tie.Need-loop-holds Inv-loop μ-loop
 loop-holds c = (search needs, below-none _)
 
--- src/uses.rt:54:13
 use-fits-requires : tie.Need-use-fits-requires Inv-loop μ-loop
 use-fits-requires c κs = search needs
 
--- src/uses.rt:55:13
 returns : tie.Need-returns Inv-loop μ-loop
 unfolding taskUsesFit
 returns c = all-left _ _ _ (c .before .before .loop-test .taken) (sym (c .before .use-fits .ensures) ∙ not-true _ (c .if1 .taken))
 
--- src/uses.rt:57:9
 add-r : tie.Need-add-r Inv-loop μ-loop
 add-r c = omega arith
 
--- src/uses.rt:53:5
 loop-less : tie.Need-loop-less Inv-loop μ-loop
 loop-less c = omega arith
 
--- src/uses.rt:53:5
 loop-again : tie.Need-loop-again Inv-loop μ-loop
 loop-again c = (omega arith, below-more _ _ (c .before .before .before .loop .inv .1) (sym (c .before .use-fits .ensures) ∙ not-false _ (c .if1 .left)))
 
--- src/uses.rt:49:1
 returns-2 : tie.Need-returns-2 Inv-loop μ-loop
 unfolding taskUsesFit
 returns-2 c = all-ended _ _ _ (c .loop-test .left) (c .before .loop .inv .1)

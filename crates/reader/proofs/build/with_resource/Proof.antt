@@ -1,5 +1,4 @@
 -- `reader::build::with_resource` meets its contract: its record is that of the definition, with the lengths that `open` gives.
-use mathlib.Core.Path.{_≡_, refl}
 use borrow.Author.Needs.{needs}
 use Rattle.reader.specs.Reading.{withResource}
 use Rattle.reader.proofs.build.with_resource.Statement.{statement}

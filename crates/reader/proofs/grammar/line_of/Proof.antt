@@ -1,6 +1,5 @@
 -- `reader::grammar::line_of` meets its contract: a letter, a tab, and what the letter's fields say.
 use mathlib.Core.Path.{sym, _∙_}
-use native.Mathlib.Omega.{arith}
 use borrow.Author.Needs.{needs}
 use Rattle.reader.proofs.Letters.{line-short, line-long, line-other, line-S, line-T, line-R, line-U}
 use Rattle.reader.proofs.grammar.line_of.Statement.{statement}

@@ -1,6 +1,5 @@
 -- `reader::judge::judge` meets its contract: 21, then 22, then the rest of the table.
 use mathlib.Core.Path.{sym, _∙_}
-use native.Mathlib.Omega.{arith}
 use borrow.Author.Tests.{eq-eqb, ne-eqb, lt-ltb, le-ltb}
 use borrow.Author.Needs.{needs}
 use Rattle.reader.specs.Conditions.{notGrammar, kindOrder}

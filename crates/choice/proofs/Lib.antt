@@ -1,0 +1,11 @@
+pub mod Held
+pub mod Columns
+pub mod Found
+pub mod Ready
+pub mod Sections
+pub mod Chosen
+pub mod Taken
+pub mod TaskTaken
+pub mod Computed
+pub mod ChosenFacts
+pub mod Running

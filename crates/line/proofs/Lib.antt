@@ -1,0 +1,15 @@
+pub mod Composed
+pub mod Decimal
+pub mod Digits
+pub mod Fields
+pub mod Rows
+pub mod Signs
+pub mod Spaced
+pub mod Parts
+pub mod Room
+pub mod Same
+pub mod Behind
+pub mod Names
+pub mod Whole
+pub mod Long
+pub mod Reported
