@@ -2,7 +2,7 @@
 mod alone;
 mod altered;
 mod apart;
-mod beginning;
+pub mod beginning;
 mod budgets;
 mod columns;
 mod legality;
@@ -18,7 +18,6 @@ pub use altered::waiting_for;
 pub use altered::with_left;
 pub use altered::with_task;
 pub use altered::with_used;
-pub use beginning::fresh;
 pub use columns::held_at;
 pub use columns::task_at;
 pub use legality::legal;

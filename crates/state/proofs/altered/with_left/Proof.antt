@@ -1,6 +1,6 @@
 use mathlib.Core.Path.{refl}
 use Rattle.state.specs.Update.{withLeft}
-use Rattle.state.proofs.CodeReads.{unmapped, withLeft-past}
+use Rattle.state.proofs.CodeStores.{unmapped, withLeft-past}
 use borrow.Author.Needs.{needs}
 use Rattle.state.proofs.altered.with_left.Statement.{statement}
 use Rattle.state.proofs.altered.with_left.Tie as tie

@@ -1,7 +1,7 @@
 use native.Mathlib.Omega.{arith}
 use Rattle.state.specs.State.{heldPlace}
 use Rattle.state.specs.Update.{withTask, withHeld}
-use Rattle.state.proofs.CodeReads.{withTask-past}
+use Rattle.state.proofs.CodeStores.{withTask-past}
 use borrow.Author.Needs.{needs}
 use Rattle.state.proofs.altered.with_task.Statement.{statement}
 use Rattle.state.proofs.altered.with_task.Tie as tie

@@ -1,6 +1,6 @@
 use mathlib.Core.Path.{refl}
 use Rattle.state.specs.Update.{withUsed}
-use Rattle.state.proofs.CodeReads.{withUsed-past}
+use Rattle.state.proofs.CodeStores.{withUsed-past}
 use borrow.Author.Needs.{needs}
 use Rattle.state.proofs.altered.with_used.Statement.{statement}
 use Rattle.state.proofs.altered.with_used.Tie as tie

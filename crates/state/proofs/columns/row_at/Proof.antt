@@ -1,6 +1,6 @@
 use mathlib.Core.Path.{sym}
 use lib.ListN.{List·getD-eq-default}
-use Rattle.state.proofs.CodeReads.{getD-within}
+use Rattle.below.proofs.Entries.{getD-within}
 use borrow.Author.Needs.{needs}
 use Rattle.state.proofs.columns.row_at.Statement.{statement}
 use Rattle.state.proofs.columns.row_at.Tie as tie
