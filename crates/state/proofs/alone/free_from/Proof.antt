@@ -1,23 +1,18 @@
+-- A place below the count is not asked.
 use Rattle.state.specs.Lent.{freeAt}
 use Rattle.state.specs.Legal.{implies}
 use borrow.Author.Tests.{le-leb, lt-leb}
 use borrow.Author.Needs.{needs}
 use Rattle.state.proofs.alone.free_from.Statement.{statement}
 use Rattle.state.proofs.alone.free_from.Tie as tie
-use Rattle.state.proofs.alone.free_from.Reads as reads
-use Rattle.state.proofs.alone.free_from.Lts as lts
-use Rattle.state.proofs.columns.held_at.Reads as held-at-reads
 
--- src/alone.rt:98:9
 returns : tie.Need-returns
 unfolding freeAt implies
 returns c = rw (lt-leb _ _ (c .if1 .taken))
 
--- src/alone.rt:100:5
 held-at-requires : tie.Need-held-at-requires
 held-at-requires c κs = search needs
 
--- src/alone.rt:94:1
 returns-2 : tie.Need-returns-2
 unfolding freeAt implies
 returns-2 c = rw (le-leb _ _ (c .before .if1 .left), ← c .held-at .ensures)

@@ -1,4 +1,4 @@
-use mathlib.Core.Path.{sym, _∙_}
+-- Each test on the way is one of those that the definition joins.
 use Rattle.plan.specs.Plan.{isGlobal, declares, lengthOf}
 use Rattle.state.specs.Legal.{implies}
 use Rattle.state.specs.Lent.{heldOne}
@@ -26,7 +26,13 @@ unlike-before-requires c κs = search needs
 
 returns-3 : tie.Need-returns-3
 unfolding heldOne declares lengthOf
-returns-3 c = rw (sym (c .before .unlike-before .ensures) ∙ not-true _ (c .if3 .taken), ← c .before .before .before .before .before .held-at .ensures, lt-ltb _ _ (c .before .before .before .before .if1 .left), ← c .before .before .before .length-at .ensures, ne-eqb _ _ (c .before .before .if2 .left))
+returns-3 c =
+    let c1 = c .before in
+    let c2 = c1 .before in
+    let c3 = c2 .before in
+    let c4 = c3 .before in
+    let c5 = c4 .before in
+    rw (← c1 .unlike-before .ensures, not-true (c1 .unlike-before .result) (c .if3 .taken), ← c5 .held-at .ensures, lt-ltb _ _ (c4 .if1 .left), ← c3 .length-at .ensures, ne-eqb _ _ (c2 .if2 .left))
 
 cast-byte-at : tie.Need-cast-byte-at
 cast-byte-at c = search needs
@@ -36,7 +42,15 @@ byte-at-requires c κs = search needs
 
 returns-4 : tie.Need-returns-4
 unfolding heldOne declares lengthOf isGlobal implies
-returns-4 c = rw (sym (c .before .before .before .unlike-before .ensures) ∙ not-false _ (c .before .before .if3 .left), ← c .before .before .before .before .before .before .before .held-at .ensures, lt-ltb _ _ (c .before .before .before .before .before .before .if1 .left), ← c .before .before .before .before .before .length-at .ensures, ne-eqb _ _ (c .before .before .before .before .if2 .left), ← c .before .byte-at .ensures, ne-eqb _ _ (c .if4 .taken))
+returns-4 c =
+    let c1 = c .before in
+    let c2 = c1 .before in
+    let c3 = c2 .before in
+    let c4 = c3 .before in
+    let c5 = c4 .before in
+    let c6 = c5 .before in
+    let c7 = c6 .before in
+    rw (← c3 .unlike-before .ensures, not-false (c3 .unlike-before .result) (c2 .if3 .left), ← c7 .held-at .ensures, lt-ltb _ _ (c6 .if1 .left), ← c5 .length-at .ensures, ne-eqb _ _ (c4 .if2 .left), ← c1 .byte-at .ensures, ne-eqb _ _ (c .if4 .taken))
 
 add-result : tie.Need-add-result
 add-result c = search needs
@@ -46,7 +60,16 @@ cast-result c = search needs
 
 returns-5 : tie.Need-returns-5
 unfolding heldOne declares lengthOf isGlobal implies
-returns-5 c = rw (sym (c .before .before .before .before .unlike-before .ensures) ∙ not-false _ (c .before .before .before .if3 .left), ← c .before .before .before .before .before .before .before .before .held-at .ensures, lt-ltb _ _ (c .before .before .before .before .before .before .before .if1 .left), ← c .before .before .before .before .before .before .length-at .ensures, ne-eqb _ _ (c .before .before .before .before .before .if2 .left), ← c .before .before .byte-at .ensures, eq-eqb _ _ (c .before .if4 .left))
+returns-5 c =
+    let c1 = c .before in
+    let c2 = c1 .before in
+    let c3 = c2 .before in
+    let c4 = c3 .before in
+    let c5 = c4 .before in
+    let c6 = c5 .before in
+    let c7 = c6 .before in
+    let c8 = c7 .before in
+    rw (← c4 .unlike-before .ensures, not-false (c4 .unlike-before .result) (c3 .if3 .left), ← c8 .held-at .ensures, lt-ltb _ _ (c7 .if1 .left), ← c6 .length-at .ensures, ne-eqb _ _ (c5 .if2 .left), ← c2 .byte-at .ensures, eq-eqb _ _ (c1 .if4 .left))
 
 pub held-one-spec : {M : Type 1} → statement M
 held-one-spec = tie.close (tie.spec held-at-requires returns length-at-requires returns-2 unlike-before-requires returns-3 cast-byte-at byte-at-requires returns-4 add-result cast-result returns-5)

@@ -1,8 +1,9 @@
+-- A row is present or absent, and only that part of the definition is asked.
 use mathlib.Core.Bool.{and-true}
 use Rattle.state.specs.Legal.{implies}
 use Rattle.state.specs.Lent.{taskFits}
 use borrow.Author.Tests.{le-leb, lt-leb, le-ltb, lt-ltb}
-use Rattle.state.proofs.CodeLent.{task-reads, alone-reads}
+use Rattle.state.proofs.CodeLent.{alone-reads}
 use borrow.Author.Needs.{needs}
 use Rattle.state.proofs.alone.task_fits.Statement.{statement}
 use Rattle.state.proofs.alone.task_fits.Tie as tie

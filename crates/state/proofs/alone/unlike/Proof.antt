@@ -1,20 +1,15 @@
+-- The test is the definition's.
 use Rattle.state.specs.Lent.{unlikeAt}
 use borrow.Author.Needs.{needs}
 use Rattle.state.proofs.alone.unlike.Statement.{statement}
 use Rattle.state.proofs.alone.unlike.Tie as tie
-use Rattle.state.proofs.alone.unlike.Reads as reads
-use Rattle.state.proofs.alone.unlike.Lts as lts
-use Rattle.state.proofs.columns.held_at.Reads as held-at-reads
 
--- src/alone.rt:152:5
 held-at-requires : tie.Need-held-at-requires
 held-at-requires c κs = search needs
 
--- src/alone.rt:152:22
 held-at-requires-2 : tie.Need-held-at-requires-2
 held-at-requires-2 c κs = search needs
 
--- src/alone.rt:149:1
 returns : tie.Need-returns
 unfolding unlikeAt
 returns c = rw (← c .before .held-at .ensures, ← c .held-at2 .ensures)

@@ -1,11 +1,9 @@
+-- The record is the definition's.
 use mathlib.Core.Path.{refl}
 use Rattle.state.specs.State.{idleTask}
 use Rattle.state.proofs.altered.idle_task.Statement.{statement}
 use Rattle.state.proofs.altered.idle_task.Tie as tie
-use Rattle.state.proofs.altered.idle_task.Reads as reads
-use Rattle.state.proofs.altered.idle_task.Lts as lts
 
--- src/altered.rt:57:1
 returns : tie.Need-returns
 unfolding idleTask
 returns c = refl

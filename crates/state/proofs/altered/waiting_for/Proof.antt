@@ -1,11 +1,9 @@
+-- The record is the definition's.
 use mathlib.Core.Path.{refl}
 use Rattle.state.specs.Update.{waitingFor}
 use Rattle.state.proofs.altered.waiting_for.Statement.{statement}
 use Rattle.state.proofs.altered.waiting_for.Tie as tie
-use Rattle.state.proofs.altered.waiting_for.Reads as reads
-use Rattle.state.proofs.altered.waiting_for.Lts as lts
 
--- src/altered.rt:92:1
 returns : tie.Need-returns
 unfolding waitingFor
 returns c = refl

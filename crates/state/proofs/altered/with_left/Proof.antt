@@ -1,26 +1,21 @@
+-- A row that is there is stored; one past the end changes nothing.
 use mathlib.Core.Path.{refl}
 use Rattle.state.specs.Update.{withLeft}
 use Rattle.state.proofs.CodeStores.{unmapped, withLeft-past}
 use borrow.Author.Needs.{needs}
 use Rattle.state.proofs.altered.with_left.Statement.{statement}
 use Rattle.state.proofs.altered.with_left.Tie as tie
-use Rattle.state.proofs.altered.with_left.Reads as reads
-use Rattle.state.proofs.altered.with_left.Lts as lts
 
--- src/altered.rt:40:9
 mul-q : tie.Need-mul-q
 mul-q c = search needs
 
--- src/altered.rt:40:9
 element-set-from-q : tie.Need-element-set-from-q
 element-set-from-q c = search needs
 
--- src/altered.rt:35:1
 returns : tie.Need-returns
 unfolding withLeft
 returns c = refl
 
--- src/altered.rt:35:1
 returns-2 : tie.Need-returns-2
 returns-2 c = withLeft-past _ _ _ (search (needs, unmapped)) (c .if1 .left)
 

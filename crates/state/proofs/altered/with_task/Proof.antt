@@ -1,3 +1,4 @@
+-- A row that is there has its four held resources at four places of the column; one past the end changes nothing.
 use native.Mathlib.Omega.{arith}
 use Rattle.state.specs.State.{heldPlace}
 use Rattle.state.specs.Update.{withTask, withHeld}
@@ -5,81 +6,60 @@ use Rattle.state.proofs.CodeStores.{withTask-past}
 use borrow.Author.Needs.{needs}
 use Rattle.state.proofs.altered.with_task.Statement.{statement}
 use Rattle.state.proofs.altered.with_task.Tie as tie
-use Rattle.state.proofs.altered.with_task.Reads as reads
-use Rattle.state.proofs.altered.with_task.Lts as lts
-use Rattle.state.proofs.columns.held_at.Reads as held-at-reads
-use Rattle.state.proofs.columns.held_place.Reads as held-place-reads
 
--- src/altered.rt:19:9
 element-write-next : tie.Need-element-write-next
 element-write-next c = search needs
 
--- src/altered.rt:20:9
 element-write-next-2 : tie.Need-element-write-next-2
 element-write-next-2 c = search needs
 
--- src/altered.rt:21:9
 element-write-next-3 : tie.Need-element-write-next-3
 element-write-next-3 c = search needs
 
--- src/altered.rt:22:13
 held-place-requires : tie.Need-held-place-requires
 held-place-requires c κs = search needs
 
--- src/altered.rt:23:28
 held-at-requires : tie.Need-held-at-requires
 held-at-requires c κs = search needs
 
--- src/altered.rt:23:9
 element-write-next-4 : tie.Need-element-write-next-4
 unfolding heldPlace
 element-write-next-4 c = omega arith
 
--- src/altered.rt:24:13
 held-place-requires-2 : tie.Need-held-place-requires-2
 held-place-requires-2 c κs = search needs
 
--- src/altered.rt:25:29
 held-at-requires-2 : tie.Need-held-at-requires-2
 held-at-requires-2 c κs = search needs
 
--- src/altered.rt:25:9
 element-write-next-5 : tie.Need-element-write-next-5
 unfolding heldPlace
 element-write-next-5 c = omega arith
 
--- src/altered.rt:26:13
 held-place-requires-3 : tie.Need-held-place-requires-3
 held-place-requires-3 c κs = search needs
 
--- src/altered.rt:27:28
 held-at-requires-3 : tie.Need-held-at-requires-3
 held-at-requires-3 c κs = search needs
 
--- src/altered.rt:27:9
 element-write-next-6 : tie.Need-element-write-next-6
 unfolding heldPlace
 element-write-next-6 c = omega arith
 
--- src/altered.rt:28:13
 held-place-requires-4 : tie.Need-held-place-requires-4
 held-place-requires-4 c κs = search needs
 
--- src/altered.rt:29:29
 held-at-requires-4 : tie.Need-held-at-requires-4
 held-at-requires-4 c κs = search needs
 
--- src/altered.rt:29:9
 element-write-next-7 : tie.Need-element-write-next-7
 unfolding heldPlace
 element-write-next-7 c = omega arith
 
--- src/altered.rt:13:1
 returns : tie.Need-returns
 unfolding withTask withHeld
 returns c = cc
 
--- src/altered.rt:13:1
 returns-2 : tie.Need-returns-2
 returns-2 c = withTask-past _ _ _ (search needs) (search needs) (search needs) (search needs) (c .if1 .left)
 

@@ -1,3 +1,4 @@
+-- The loop's invariant: j is apart from every task passed.
 use native.Mathlib.Omega.{arith}
 use borrow.Author.Needs.{needs}
 use mathlib.Core.Path.{_≡_, sym, _∙_}
@@ -11,9 +12,6 @@ use Rattle.plan.specs.Lent.{lent}
 use Rattle.state.specs.Lent.{columns, apart}
 use Rattle.state.proofs.apart.all_from.Statement.{statement}
 use Rattle.state.proofs.apart.all_from.Tie as tie
-use Rattle.state.proofs.apart.all_from.Reads as reads
-use Rattle.state.proofs.apart.all_from.Lts as lts
-use Rattle.state.proofs.apart.sections_apart.Reads as sections-apart-reads
 
 abbrev Inv-loop : tie.InvT-loop
 Inv-loop owners kinds ceilings conditions waits counts held tasks j k₀ k = (k ≤ tasks) × ((n : ℕ) → n < k → apart (lent 0 0 0 [] [] owners kinds []) ceilings (columns [] [] [] conditions waits counts held) j n ≡ true)
@@ -21,31 +19,24 @@ Inv-loop owners kinds ceilings conditions waits counts held tasks j k₀ k = (k 
 abbrev μ-loop : tie.MeasureT-loop
 μ-loop owners kinds ceilings conditions waits counts held tasks j k₀ k = tasks - k
 
--- src/apart.rt:217:5
 loop-holds : tie.Need-loop-holds Inv-loop μ-loop
 loop-holds c = (search needs, below-none _)
 
--- src/apart.rt:218:13
 sections-apart-requires : tie.Need-sections-apart-requires Inv-loop μ-loop
 sections-apart-requires c κs = search needs
 
--- src/apart.rt:229:13
 returns : tie.Need-returns Inv-loop μ-loop
 returns c = all-left _ _ _ (c .before .before .loop-test .taken) (sym (c .before .sections-apart .ensures) ∙ not-true _ (c .if1 .taken))
 
--- src/apart.rt:231:9
 add-k : tie.Need-add-k Inv-loop μ-loop
 add-k c = omega arith
 
--- src/apart.rt:217:5
 loop-less : tie.Need-loop-less Inv-loop μ-loop
 loop-less c = omega arith
 
--- src/apart.rt:217:5
 loop-again : tie.Need-loop-again Inv-loop μ-loop
 loop-again c = (omega arith, below-more _ _ (c .before .before .before .loop .inv .1) (sym (c .before .sections-apart .ensures) ∙ not-false _ (c .if1 .left)))
 
--- src/apart.rt:203:1
 returns-2 : tie.Need-returns-2 Inv-loop μ-loop
 returns-2 c = all-ended _ _ _ (c .loop-test .left) (c .before .loop .inv .1)
 

@@ -1,8 +1,9 @@
+-- Outside a section nothing is asked.
 use Rattle.state.specs.State.{inSection}
 use Rattle.plan.specs.Plan.{isGlobal}
 use mathlib.Core.Path.{sym, _∙_}
 use Rattle.state.specs.Lent.{apartFrom}
-use borrow.Author.Tests.{not-true, not-false}
+use borrow.Author.Tests.{not-true}
 use Rattle.state.proofs.CodeLent.{apart-outside, apart-reads}
 use borrow.Author.Needs.{needs}
 use Rattle.state.proofs.apart.apart_from.Statement.{statement}

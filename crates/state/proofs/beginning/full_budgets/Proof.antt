@@ -1,3 +1,4 @@
+-- The loop's invariant: every subsystem passed has its budget.
 use native.Mathlib.Omega.{arith}
 use borrow.Author.Needs.{needs}
 use mathlib.Core.Path.{_≡_, ap}
@@ -9,9 +10,6 @@ use Rattle.below.proofs.Listed.{filled-next, filled-ended}
 use Rattle.state.specs.declared.BudgetLeft.{BudgetLeft}
 use Rattle.state.proofs.beginning.full_budgets.Statement.{statement}
 use Rattle.state.proofs.beginning.full_budgets.Tie as tie
-use Rattle.state.proofs.beginning.full_budgets.Reads as reads
-use Rattle.state.proofs.beginning.full_budgets.Lts as lts
-use Rattle.plan.proofs.tables.word_at.Reads as word-at-reads
 
 abbrev budgetAt : List ℕ → ℕ → BudgetLeft
 budgetAt budgets k = record { 0 = getD budgets k 0 }
@@ -22,45 +20,35 @@ Inv-loop budgets left₀ c₀ left c = (c ≤ 8) × (length left ≡ 8) × ((k :
 abbrev μ-loop : tie.MeasureT-loop
 μ-loop budgets left₀ c₀ left c = 8 - c
 
--- src/beginning.rt:16:5
 loop-holds : tie.Need-loop-holds Inv-loop μ-loop
 loop-holds c = (search needs, search needs, below-none _)
 
--- src/beginning.rt:17:56
 cast-word-at : tie.Need-cast-word-at Inv-loop μ-loop
 cast-word-at c = omega arith
 
--- src/beginning.rt:17:39
 word-at-requires : tie.Need-word-at-requires Inv-loop μ-loop
 word-at-requires c κs = search needs
 
--- src/beginning.rt:17:14
 cast-left : tie.Need-cast-left Inv-loop μ-loop
 cast-left c = omega arith
 
--- src/beginning.rt:17:9
 mul-left : tie.Need-mul-left Inv-loop μ-loop
 mul-left c = omega arith
 
--- src/beginning.rt:17:9
 array-set-from-left : tie.Need-array-set-from-left Inv-loop μ-loop
 array-set-from-left c = omega arith
 
--- src/beginning.rt:18:9
 add-c : tie.Need-add-c Inv-loop μ-loop
 add-c c = omega arith
 
--- src/beginning.rt:16:5
 loop-less : tie.Need-loop-less Inv-loop μ-loop
 loop-less c = omega arith
 
--- src/beginning.rt:16:5
 loop-again : tie.Need-loop-again Inv-loop μ-loop
 loop-again c = let l = c .before .before .loop in
     let h : l .c < length (l .left) = omega arith in
     (omega arith, search needs, filled-next _ (record { 0 = 0 }) (l .left) _ _ h (ap (λ (n : ℕ). record { 0 = n }) (c .word-at .ensures)) (l .inv .2))
 
--- src/beginning.rt:11:1
 returns : tie.Need-returns Inv-loop μ-loop
 returns c = filled-ended _ _ _ (record { 0 = 0 }) (c .before .loop .left) (c .loop-test .left) (c .before .loop .inv .1) (c .before .loop .inv .2)
 

@@ -1,3 +1,4 @@
+-- The loop's invariant: every subsystem passed has counts that fit.
 use native.Mathlib.Omega.{arith}
 use borrow.Author.Needs.{needs}
 use mathlib.Core.Path.{_≡_, sym, _∙_}
@@ -11,9 +12,6 @@ use Rattle.plan.specs.Lent.{lent}
 use Rattle.state.specs.Lent.{columns, countsFit}
 use Rattle.state.proofs.budgets.all_counts_fit.Statement.{statement}
 use Rattle.state.proofs.budgets.all_counts_fit.Tie as tie
-use Rattle.state.proofs.budgets.all_counts_fit.Reads as reads
-use Rattle.state.proofs.budgets.all_counts_fit.Lts as lts
-use Rattle.state.proofs.budgets.counts_fit.Reads as counts-fit-reads
 
 abbrev Inv-loop : tie.InvT-loop
 Inv-loop periods budgets left refill used subsystems c₀ c = (c ≤ 8) × ((n : ℕ) → n < c → countsFit (lent subsystems 0 0 periods budgets [] [] []) (columns left refill used [] [] [] []) n ≡ true)
@@ -21,31 +19,24 @@ Inv-loop periods budgets left refill used subsystems c₀ c = (c ≤ 8) × ((n :
 abbrev μ-loop : tie.MeasureT-loop
 μ-loop periods budgets left refill used subsystems c₀ c = 8 - c
 
--- src/budgets.rt:85:5
 loop-holds : tie.Need-loop-holds Inv-loop μ-loop
 loop-holds c = (search needs, below-none _)
 
--- src/budgets.rt:86:13
 counts-fit-requires : tie.Need-counts-fit-requires Inv-loop μ-loop
 counts-fit-requires c κs = search needs
 
--- src/budgets.rt:87:13
 returns : tie.Need-returns Inv-loop μ-loop
 returns c = all-left _ _ _ (c .before .before .loop-test .taken) (sym (c .before .counts-fit .ensures) ∙ not-true _ (c .if1 .taken))
 
--- src/budgets.rt:89:9
 add-c : tie.Need-add-c Inv-loop μ-loop
 add-c c = omega arith
 
--- src/budgets.rt:85:5
 loop-less : tie.Need-loop-less Inv-loop μ-loop
 loop-less c = omega arith
 
--- src/budgets.rt:85:5
 loop-again : tie.Need-loop-again Inv-loop μ-loop
 loop-again c = (omega arith, below-more _ _ (c .before .before .before .loop .inv .1) (sym (c .before .counts-fit .ensures) ∙ not-false _ (c .if1 .left)))
 
--- src/budgets.rt:74:1
 returns-2 : tie.Need-returns-2 Inv-loop μ-loop
 returns-2 c = all-ended _ _ _ (c .loop-test .left) (c .before .loop .inv .1)
 

@@ -1,3 +1,4 @@
+-- A row is present or absent, and only that part of the definition is asked.
 use mathlib.Core.Bool.{and-true}
 use Rattle.state.specs.State.{leftOf, refillOf, usedOf}
 use Rattle.plan.specs.Plan.{period, budget}
@@ -7,25 +8,17 @@ use borrow.Author.Tests.{le-leb, lt-leb, le-ltb, lt-ltb}
 use borrow.Author.Needs.{needs}
 use Rattle.state.proofs.budgets.counts_fit.Statement.{statement}
 use Rattle.state.proofs.budgets.counts_fit.Tie as tie
-use Rattle.state.proofs.budgets.counts_fit.Reads as reads
-use Rattle.state.proofs.budgets.counts_fit.Lts as lts
-use Rattle.state.proofs.budgets.counts_absent.Reads as counts-absent-reads
-use Rattle.state.proofs.budgets.counts_legal.Reads as counts-legal-reads
 
--- src/budgets.rt:69:9
 counts-legal-requires : tie.Need-counts-legal-requires
 counts-legal-requires c κs = search needs
 
--- src/budgets.rt:69:9
 returns : tie.Need-returns
 unfolding countsFit implies countsLegal leftOf refillOf period budget
 returns c = rw (lt-ltb _ _ (c .before .if1 .taken), lt-leb _ _ (c .before .if1 .taken), and-true) (c .counts-legal .ensures)
 
--- src/budgets.rt:71:5
 counts-absent-requires : tie.Need-counts-absent-requires
 counts-absent-requires c κs = search needs
 
--- src/budgets.rt:57:1
 returns-2 : tie.Need-returns-2
 unfolding countsFit implies absentSubsystem leftOf refillOf usedOf
 returns-2 c = rw (le-ltb _ _ (c .before .if1 .left), le-leb _ _ (c .before .if1 .left)) (c .counts-absent .ensures)

@@ -1,43 +1,31 @@
+-- Each part of the task is the entry of its column.
 use Rattle.below.specs.Listed.{listed, listedOnto}
 use Rattle.state.specs.State.{taskAt}
 use borrow.Author.Needs.{needs}
 use Rattle.state.proofs.columns.task_at.Statement.{statement}
 use Rattle.state.proofs.columns.task_at.Tie as tie
-use Rattle.state.proofs.columns.task_at.Reads as reads
-use Rattle.state.proofs.columns.task_at.Lts as lts
-use Rattle.plan.proofs.tables.byte_at.Reads as byte-at-reads
-use Rattle.state.proofs.columns.held_of.Reads as held-of-reads
-use Rattle.state.proofs.columns.row_at.Reads as row-at-reads
 
--- src/columns.rt:48:9
 held-of-requires : tie.Need-held-of-requires
 held-of-requires c κs = search needs
 
--- src/columns.rt:49:9
 held-of-requires-2 : tie.Need-held-of-requires-2
 held-of-requires-2 c κs = search needs
 
--- src/columns.rt:50:9
 held-of-requires-3 : tie.Need-held-of-requires-3
 held-of-requires-3 c κs = search needs
 
--- src/columns.rt:51:9
 held-of-requires-4 : tie.Need-held-of-requires-4
 held-of-requires-4 c κs = search needs
 
--- src/columns.rt:53:20
 byte-at-requires : tie.Need-byte-at-requires
 byte-at-requires c κs = search needs
 
--- src/columns.rt:54:16
 row-at-requires : tie.Need-row-at-requires
 row-at-requires c κs = search needs
 
--- src/columns.rt:55:16
 byte-at-requires-2 : tie.Need-byte-at-requires-2
 byte-at-requires-2 c κs = search needs
 
--- src/columns.rt:38:1
 returns : tie.Need-returns
 unfolding taskAt listed listedOnto
 returns c = cc

@@ -1,3 +1,4 @@
+-- The loop's invariant: every active task passed lies below the row.
 use native.Mathlib.Omega.{arith}
 use borrow.Author.Needs.{needs}
 use mathlib.Core.Path.{_≡_, sym, _∙_}
@@ -11,9 +12,6 @@ use Rattle.plan.specs.Lent.{lent}
 use Rattle.state.specs.Lent.{columns, belowRow}
 use Rattle.state.proofs.order.all_below_row.Statement.{statement}
 use Rattle.state.proofs.order.all_below_row.Tie as tie
-use Rattle.state.proofs.order.all_below_row.Reads as reads
-use Rattle.state.proofs.order.all_below_row.Lts as lts
-use Rattle.state.proofs.order.below_row.Reads as below-row-reads
 
 abbrev Inv-loop : tie.InvT-loop
 Inv-loop owners conditions tasks k row j₀ j = (j ≤ tasks) × ((n : ℕ) → n < j → belowRow (lent 0 0 0 [] [] owners [] []) (columns [] [] [] conditions [] [] []) k row n ≡ true)
@@ -21,31 +19,24 @@ Inv-loop owners conditions tasks k row j₀ j = (j ≤ tasks) × ((n : ℕ) → 
 abbrev μ-loop : tie.MeasureT-loop
 μ-loop owners conditions tasks k row j₀ j = tasks - j
 
--- src/order.rt:46:5
 loop-holds : tie.Need-loop-holds Inv-loop μ-loop
 loop-holds c = (search needs, below-none _)
 
--- src/order.rt:47:13
 below-row-requires : tie.Need-below-row-requires Inv-loop μ-loop
 below-row-requires c κs = search needs
 
--- src/order.rt:48:13
 returns : tie.Need-returns Inv-loop μ-loop
 returns c = all-left _ _ _ (c .before .before .loop-test .taken) (sym (c .before .below-row .ensures) ∙ not-true _ (c .if1 .taken))
 
--- src/order.rt:50:9
 add-j : tie.Need-add-j Inv-loop μ-loop
 add-j c = omega arith
 
--- src/order.rt:46:5
 loop-less : tie.Need-loop-less Inv-loop μ-loop
 loop-less c = omega arith
 
--- src/order.rt:46:5
 loop-again : tie.Need-loop-again Inv-loop μ-loop
 loop-again c = (omega arith, below-more _ _ (c .before .before .before .loop .inv .1) (sym (c .before .below-row .ensures) ∙ not-false _ (c .if1 .left)))
 
--- src/order.rt:42:1
 returns-2 : tie.Need-returns-2 Inv-loop μ-loop
 returns-2 c = all-ended _ _ _ (c .loop-test .left) (c .before .loop .inv .1)
 

@@ -1,3 +1,4 @@
+-- The loop's invariant: every task passed stands in order.
 use native.Mathlib.Omega.{arith}
 use mathlib.Core.Path.{_≡_, sym, _∙_}
 use Prim.Native.Nat.{ℕ, _≤_, _<_, _-_}

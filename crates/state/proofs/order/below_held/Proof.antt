@@ -1,3 +1,4 @@
+-- A global resource is passed; a local one has its ceiling in the list.
 use Rattle.plan.specs.Plan.{isGlobal}
 use Rattle.state.specs.Lent.{belowHeld}
 use borrow.Author.Tests.{eq-eqb, ne-eqb}
@@ -30,7 +31,12 @@ all-below-row-requires c κs = search needs
 
 returns-2 : tie.Need-returns-2
 unfolding belowHeld isGlobal
-returns-2 c = rw (← c .before .before .before .before .before .held-at .ensures, ← c .before .before .before .before .byte-at .ensures, ne-eqb _ _ (c .before .before .before .if1 .left), ← c .before .byte-at2 .ensures, ← below-reads) (c .all-below-row .ensures)
+returns-2 c =
+    let c1 = c .before in
+    let c3 = c1 .before .before in
+    let c4 = c3 .before in
+    let c5 = c4 .before in
+    rw (← c5 .held-at .ensures, ← c4 .byte-at .ensures, ne-eqb _ _ (c3 .if1 .left), ← c1 .byte-at2 .ensures, ← below-reads) (c .all-below-row .ensures)
 
 pub below-held-spec : {M : Type 1} → statement M
 below-held-spec = tie.close (tie.spec held-at-requires cast-byte-at byte-at-requires returns cast-byte-at-2 byte-at-requires-2 all-below-row-requires returns-2)

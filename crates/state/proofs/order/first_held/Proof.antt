@@ -1,5 +1,5 @@
-use mathlib.Core.Path.{sym, _∙_}
-use mathlib.Core.Bool.{or-true}
+-- No task lies below row 0, so that there is none before is that all before lie below it.
+use mathlib.Core.Path.{_∙_}
 use Rattle.state.specs.State.{isWaiting}
 use Rattle.state.specs.Legal.{implies}
 use Rattle.state.specs.Lent.{firstHeld}
@@ -21,14 +21,14 @@ in-section-requires c κs = search needs
 
 returns-2 : tie.Need-returns-2
 unfolding firstHeld implies isWaiting
-returns-2 c = rw (ne-eqb _ _ (c .before .before .if1 .left), ← section-reads, sym (c .before .in-section .ensures) ∙ not-true _ (c .if2 .taken))
+returns-2 c = rw (ne-eqb _ _ (c .before .before .if1 .left), ← section-reads, ← c .before .in-section .ensures, not-true (c .before .in-section .result) (c .if2 .taken))
 
 all-below-row-requires-2 : tie.Need-all-below-row-requires-2
 all-below-row-requires-2 c κs = search needs
 
 returns-3 : tie.Need-returns-3
 unfolding firstHeld implies isWaiting
-returns-3 c = rw (ne-eqb _ _ (c .before .before .before .if1 .left), ← section-reads, sym (c .before .before .in-section .ensures) ∙ not-false _ (c .before .if2 .left)) (c .all-below-row2 .ensures ∙ none-before _ _ _ _)
+returns-3 c = rw (ne-eqb _ _ (c .before .before .before .if1 .left), ← section-reads, ← c .before .before .in-section .ensures, not-false (c .before .before .in-section .result) (c .before .if2 .left)) (c .all-below-row2 .ensures ∙ none-before _ _ _ _)
 
 pub first-held-spec : {M : Type 1} → statement M
 first-held-spec = tie.close (tie.spec all-below-row-requires returns in-section-requires returns-2 all-below-row-requires-2 returns-3)

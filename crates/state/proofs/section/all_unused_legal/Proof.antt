@@ -1,3 +1,4 @@
+-- The loop's invariant: every subsystem passed has used nothing or has a section.
 use native.Mathlib.Omega.{arith}
 use borrow.Author.Needs.{needs}
 use mathlib.Core.Path.{_≡_, sym, _∙_}
@@ -12,9 +13,6 @@ use Rattle.state.specs.Lent.{columns}
 use Rattle.state.specs.Legal.{unusedLegal}
 use Rattle.state.proofs.section.all_unused_legal.Statement.{statement}
 use Rattle.state.proofs.section.all_unused_legal.Tie as tie
-use Rattle.state.proofs.section.all_unused_legal.Reads as reads
-use Rattle.state.proofs.section.all_unused_legal.Lts as lts
-use Rattle.state.proofs.section.unused_legal.Reads as unused-legal-reads
 
 abbrev Inv-loop : tie.InvT-loop
 Inv-loop owners kinds used conditions waits counts held subsystems tasks c₀ c = (c ≤ subsystems) × ((n : ℕ) → n < c → unusedLegal (lent 0 tasks 0 [] [] owners kinds []) (columns [] [] used conditions waits counts held) n ≡ true)
@@ -22,31 +20,24 @@ Inv-loop owners kinds used conditions waits counts held subsystems tasks c₀ c 
 abbrev μ-loop : tie.MeasureT-loop
 μ-loop owners kinds used conditions waits counts held subsystems tasks c₀ c = subsystems - c
 
--- src/section.rt:217:5
 loop-holds : tie.Need-loop-holds Inv-loop μ-loop
 loop-holds c = (search needs, below-none _)
 
--- src/section.rt:218:13
 unused-legal-requires : tie.Need-unused-legal-requires Inv-loop μ-loop
 unused-legal-requires c κs = search needs
 
--- src/section.rt:229:13
 returns : tie.Need-returns Inv-loop μ-loop
 returns c = all-left _ _ _ (c .before .before .loop-test .taken) (sym (c .before .unused-legal .ensures) ∙ not-true _ (c .if1 .taken))
 
--- src/section.rt:231:9
 add-c : tie.Need-add-c Inv-loop μ-loop
 add-c c = omega arith
 
--- src/section.rt:217:5
 loop-less : tie.Need-loop-less Inv-loop μ-loop
 loop-less c = omega arith
 
--- src/section.rt:217:5
 loop-again : tie.Need-loop-again Inv-loop μ-loop
 loop-again c = (omega arith, below-more _ _ (c .before .before .before .loop .inv .1) (sym (c .before .unused-legal .ensures) ∙ not-false _ (c .if1 .left)))
 
--- src/section.rt:203:1
 returns-2 : tie.Need-returns-2 Inv-loop μ-loop
 returns-2 c = all-ended _ _ _ (c .loop-test .left) (c .before .loop .inv .1)
 

@@ -1,3 +1,4 @@
+-- The loop's invariant: no task passed is of the subsystem and in a section.
 use native.Mathlib.Omega.{arith}
 use borrow.Author.Needs.{needs}
 use mathlib.Core.Path.{_≡_, sym, _∙_}
@@ -10,9 +11,6 @@ use Rattle.plan.specs.Lent.{lent}
 use Rattle.state.specs.Lent.{columns, sectionOf}
 use Rattle.state.proofs.section.any_section.Statement.{statement}
 use Rattle.state.proofs.section.any_section.Tie as tie
-use Rattle.state.proofs.section.any_section.Reads as reads
-use Rattle.state.proofs.section.any_section.Lts as lts
-use Rattle.state.proofs.section.section_of.Reads as section-of-reads
 
 abbrev Inv-loop : tie.InvT-loop
 Inv-loop owners kinds conditions waits counts held tasks c k₀ k = (k ≤ tasks) × ((n : ℕ) → n < k → sectionOf (lent 0 0 0 [] [] owners kinds []) (columns [] [] [] conditions waits counts held) c n ≡ false)
@@ -20,31 +18,24 @@ Inv-loop owners kinds conditions waits counts held tasks c k₀ k = (k ≤ tasks
 abbrev μ-loop : tie.MeasureT-loop
 μ-loop owners kinds conditions waits counts held tasks c k₀ k = tasks - k
 
--- src/section.rt:174:5
 loop-holds : tie.Need-loop-holds Inv-loop μ-loop
 loop-holds c = (search needs, below-none _)
 
--- src/section.rt:175:12
 section-of-requires : tie.Need-section-of-requires Inv-loop μ-loop
 section-of-requires c κs = search needs
 
--- src/section.rt:176:13
 returns : tie.Need-returns Inv-loop μ-loop
 returns c = any-left _ _ _ (c .before .before .loop-test .taken) (sym (c .before .section-of .ensures) ∙ c .if1 .taken)
 
--- src/section.rt:178:9
 add-k : tie.Need-add-k Inv-loop μ-loop
 add-k c = omega arith
 
--- src/section.rt:174:5
 loop-less : tie.Need-loop-less Inv-loop μ-loop
 loop-less c = omega arith
 
--- src/section.rt:174:5
 loop-again : tie.Need-loop-again Inv-loop μ-loop
 loop-again c = (omega arith, below-more _ _ (c .before .before .before .loop .inv .1) (sym (c .before .section-of .ensures) ∙ c .if1 .left))
 
--- src/section.rt:161:1
 returns-2 : tie.Need-returns-2 Inv-loop μ-loop
 returns-2 c = any-ended _ _ _ (c .loop-test .left) (c .before .loop .inv .1)
 

@@ -1,32 +1,24 @@
+-- Something is held, and the last of it is global.
 use Rattle.state.specs.State.{inSection}
 use Rattle.plan.specs.Plan.{isGlobal}
 use borrow.Author.Tests.{le-leb, lt-leb}
 use borrow.Author.Needs.{needs}
 use Rattle.state.proofs.section.in_section.Statement.{statement}
 use Rattle.state.proofs.section.in_section.Tie as tie
-use Rattle.state.proofs.section.in_section.Reads as reads
-use Rattle.state.proofs.section.in_section.Lts as lts
-use Rattle.plan.proofs.tables.byte_at.Reads as byte-at-reads
-use Rattle.state.proofs.section.last_held.Reads as last-held-reads
 
--- src/section.rt:33:9
 returns : tie.Need-returns
 unfolding inSection
 returns c = rw (lt-leb _ _ (c .if1 .taken))
 
--- src/section.rt:35:20
 last-held-requires : tie.Need-last-held-requires
 last-held-requires c κs = search needs
 
--- src/section.rt:35:20
 cast-byte-at : tie.Need-cast-byte-at
 cast-byte-at c = search needs
 
--- src/section.rt:35:5
 byte-at-requires : tie.Need-byte-at-requires
 byte-at-requires c κs = search needs
 
--- src/section.rt:29:1
 returns-2 : tie.Need-returns-2
 unfolding inSection isGlobal
 returns-2 c = rw (le-leb _ _ (c .before .before .if1 .left), ← c .before .last-held .ensures, ← c .byte-at .ensures)

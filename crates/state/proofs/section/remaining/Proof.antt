@@ -1,19 +1,15 @@
+-- A section that is used up has nothing left.
 use mathlib.Core.Path.{_≡_, ap}
 use native.Mathlib.Omega.{arith}
 use Prim.Native.Nat.{ℕ, _-_}
-use Rattle.state.specs.declared.SectionLeft.{SectionLeft}
 use borrow.Author.Needs.{needs}
 use Rattle.state.proofs.section.remaining.Statement.{statement}
 use Rattle.state.proofs.section.remaining.Tie as tie
-use Rattle.state.proofs.section.remaining.Reads as reads
-use Rattle.state.proofs.section.remaining.Lts as lts
 
--- src/section.rt:50:1
 returns : tie.Need-returns
 returns c = let e : 0 ≡ c .before .args .length - c .before .args .used = omega arith in
     ap (λ (n : ℕ). record { 0 = n }) e
 
--- src/section.rt:50:1
 returns-2 : tie.Need-returns-2
 returns-2 c = search needs
 
