@@ -9,6 +9,7 @@ use native.Mathlib.Omega.{arith}
 use lib.Dec.{ltb}
 use borrow.Author.Tests.{ltb-true, ltb-false}
 use Rattle.below.specs.Below.{all, any, first}
+use Rattle.below.proofs.Tests.{and-left, and-right, and-of, same-truth}
 
 -- a number below n + 1 is n or below n
 pub last-or-before : {k n : ℕ} → k < suc n → (k ≡ n) ⊎ (k < n)
@@ -74,6 +75,15 @@ pub all-agree : (n : ℕ) (p q : ℕ → Bool) → ((k : ℕ) → k < n → p k 
 unfolding all
 all-agree zero p q f = refl
 all-agree (suc n) p q f = rw (all-agree n p q (λ k h. f k (le-step h)), f n (lt-suc-self n))
+
+-- all: of two tests, in two passes
+pub all-both : (n : ℕ) (p q : ℕ → Bool) → all n (λ k. p k && q k) ≡ (all n p && all n q)
+all-both n p q = same-truth (all n both) (all n p && all n q)
+    (λ e. and-of (all n p) (all n q) (all-of n p (λ k h. and-left (p k) (q k) (all-at n both e k h))) (all-of n q (λ k h. and-right (p k) (q k) (all-at n both e k h))))
+    (λ e. all-of n both (λ k h. and-of (p k) (q k) (all-at n p (and-left (all n p) (all n q) e) k h) (all-at n q (and-right (all n p) (all n q) e) k h)))
+  where
+    both : ℕ → Bool
+    both k = p k && q k
 
 -- any: the loop
 

@@ -81,3 +81,9 @@ or-first false b e h = absurd (h e)
 pub or-second : (a b : Bool) → (a || b) ≡ true → a ≡ false → b ≡ true
 or-second true b e h = absurd (true≢false h)
 or-second false b e h = e
+
+-- two tests with the same truth are the same
+pub same-truth : (a b : Bool) → (a ≡ true → b ≡ true) → (b ≡ true → a ≡ true) → a ≡ b
+same-truth true b f g = sym (f refl)
+same-truth false true f g = g refl
+same-truth false false f g = refl

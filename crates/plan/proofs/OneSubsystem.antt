@@ -11,13 +11,8 @@ use Rattle.plan.specs.Plan.{owner, isGlobal, declares, foremost}
 use Rattle.plan.specs.Ceiling.{localCeiling}
 use Rattle.plan.specs.Accepted.{oneSubsystem}
 use Rattle.plan.specs.Lent.{usedFrom}
+use Rattle.below.proofs.Tests.{same-truth}
 use Rattle.below.proofs.Search.{all-at, all-of, first-most, first-passes}
-
--- two tests with the same truth are the same
-same-truth : (a b : Bool) → (a ≡ true → b ≡ true) → (b ≡ true → a ≡ true) → a ≡ b
-same-truth true b f g = sym (f refl)
-same-truth false true f g = g refl
-same-truth false false f g = refl
 
 module _ (n : ℕ) (d : ℕ → Bool) (o : ℕ → ℕ) where
   abbrev withFirst : ℕ → Bool

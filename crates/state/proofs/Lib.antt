@@ -9,3 +9,8 @@ pub mod Replaced
 pub mod Changed
 pub mod Fresh
 pub mod TaskKept
+pub mod CodeStores
+pub mod CodeLent
+pub mod CodeSplit
+pub mod CodeCeilings
+pub mod CodeLegal

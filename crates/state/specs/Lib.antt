@@ -4,3 +4,4 @@ pub mod Fresh
 pub mod Legal
 pub mod Facts
 pub mod Sized
+pub mod Lent
