@@ -39,8 +39,10 @@ part-second-row-start c = sub-second-row c
 returns-3 : tie.Need-returns-3
 returns-3 c =
     let k = c .before .before in
+    let e = sym (k .before .before .before .number-of .ensures) ∙ k .before .task .given .1 in
     c .second-row .ensures
-    ∙ rw (to-end-next (k .before .before .before .before .before .before .before .before .args .rest .now) (k .before .before .before .before .before .before .find .result)) (sym (two-is _ (tabbed (k .before .before .before .before .before)) _ (sym (k .before .before .before .number-of .ensures) ∙ k .before .task .given .1)))
+    ∙ rw (to-end-next (k .before .before .before .before .before .before .before .before .args .rest .now) (k .before .before .before .before .before .before .find .result))
+    (sym (two-is _ (tabbed (k .before .before .before .before .before)) _ e))
 
 pub two-rows-spec : {M : Type 1} → statement M
 two-rows-spec =
