@@ -1,2 +1,4 @@
 pub mod Read
 pub mod Margin
+pub mod Fresh
+pub mod Step

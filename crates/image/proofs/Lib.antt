@@ -2,4 +2,3 @@ pub mod WordLaws
 pub mod Parts
 pub mod BlockLaws
 pub mod Written
-pub mod Exactly

@@ -2,3 +2,5 @@ pub mod Words
 pub mod Block
 pub mod BlockCalls
 pub mod Image
+pub mod Opening
+pub mod HasState

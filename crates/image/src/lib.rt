@@ -8,6 +8,7 @@ ghost use Rattle.image.specs.BlockCalls.{blockRefused, blockRead, blockW
 mod words;
 
 use plan::Plan;
+use state::State;
 use words::read_bytes;
 use words::read_words;
 use words::write_bytes;
@@ -18,6 +19,14 @@ use words::write_words;
 pub struct Block {
     pub number: u8,
     pub plan: Plan,
+}
+
+// What a block and an image lent together give. number: 34, 31, 32, or 0 with plan, ceilings and state; with any other number they are all 0.
+pub struct Opened {
+    pub number: u8,
+    pub plan: Plan,
+    pub ceilings: [u8; 16],
+    pub state: State,
 }
 
 fn refused(number: u8) -> Block

@@ -3,8 +3,6 @@ pub mod Line
 pub mod Conditions
 pub mod Reading
 pub mod Margin
-pub mod Listed
-pub mod TextOf
 pub mod Pair
 pub mod Judged
 pub mod Room

@@ -11,17 +11,17 @@ use Rattle.text.specs.Bytes.{bytes}
 use Rattle.text.specs.Numbers.{decimal}
 use Rattle.plan.specs.declared.Plan.{Plan}
 use Rattle.plan.specs.Plan.{period, budget, owner, isGlobal}
 use Rattle.reader.specs.declared.Line.{Line}
 use Rattle.reader.specs.declared.Line.the-variants.{Subsystem, Task, Resource}
 use Rattle.reader.specs.Line.{ofFields, kindOf}
 use Rattle.reader.specs.Conditions.{notGrammar, kindOrder, tooManyRows, noSuchRow, outOfRange, twice, twoSubsystems, aboveBudget}
 use Rattle.reader.specs.Reading.{emptyPlan, withLine, withSubsystem, withTask, withResource}
-use Rattle.reader.specs.TextOf.{tabbed, texts, subsystemText, taskText, kindText, resourceText}
-use Rattle.reader.proofs.SoundPlan.{Sound}
-use Rattle.reader.proofs.TextOfDecimal.{Plain, decimal-plain}
-use Rattle.reader.proofs.TextOfLines.{AllPlain, one-line, line-of, subsystem-line, task-line, local-line, global-line}
-use Rattle.reader.proofs.TextOfReads.{Reads, reads-texts, reads-line, Passes}
-use Rattle.reader.proofs.TextOfTables.{copied, copied-whole, openedTo}
+use Rattle.exactly.specs.TextOf.{tabbed, texts, subsystemText, taskText, kindText, resourceText}
+use Rattle.exactly.proofs.SoundPlan.{Sound}
+use Rattle.exactly.proofs.TextOfDecimal.{Plain, decimal-plain}
+use Rattle.exactly.proofs.TextOfLines.{AllPlain, one-line, line-of, subsystem-line, task-line, local-line, global-line}
+use Rattle.exactly.proofs.TextOfReads.{Reads, reads-texts, reads-line, Passes}
+use Rattle.exactly.proofs.TextOfTables.{copied, copied-whole, openedTo}
 
 -- a plan cut to its first i subsystems, or to these and its first i tasks, or to all but the lengths of all but its first i resources
 unfoldable pub subsystemsTo : Plan → ℕ → Plan

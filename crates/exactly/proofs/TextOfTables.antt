@@ -10,8 +10,8 @@ use lib.Seq.{getD-set-same, getD-set-other, ext-getD}
 use Rattle.below.proofs.Search.{last-or-before}
 use Rattle.plan.specs.Limits.{undeclared}
 use Rattle.plan.specs.Plan.{place}
 use Rattle.reader.specs.Reading.{opened}
-use Rattle.reader.proofs.PlanShape.{there-or-not, zeros, place-task, place-resource, length-opened, opened-at, opened-else}
+use Rattle.exactly.proofs.PlanShape.{there-or-not, zeros, place-task, place-resource, length-opened, opened-at, opened-else}
 
 -- the first i entries of a table of m, over zeros
 unfoldable pub copied : List ℕ → ℕ → ℕ → List ℕ

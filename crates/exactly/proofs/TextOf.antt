@@ -14,20 +14,20 @@ use Rattle.plan.specs.declared.Plan.{Plan}
 use Rattle.plan.specs.Plan.{place, lengthOf}
 use Rattle.plan.specs.Admission.{firstNegative, admitted}
 use Rattle.plan.specs.Accepted.{accepted}
 use Rattle.reader.specs.declared.Verdict.the-variants.{Accepted}
 use Rattle.reader.specs.declared.Reading.{Reading}
 use Rattle.reader.specs.Numbers.{isAccepted}
 use Rattle.reader.specs.Reading.{emptyPlan, readFrom, judgedWhole, reading}
-use Rattle.reader.specs.TextOf.{texts, subsystemText, taskText, resourceText, useText, textOf}
-use Rattle.reader.proofs.PlanShape.{Shaped, there-or-not}
-use Rattle.reader.proofs.SoundPlan.{Sound}
-use Rattle.reader.proofs.SoundFacts.{accepted-some, accepted-admitted, accepted-sound}
-use Rattle.reader.proofs.TextOfReads.{Reads, reads-then, reads-after}
-use Rattle.reader.proofs.TextOfTables.{openedTo, openedTo-absent}
-use Rattle.reader.proofs.TextOfRows.{tasksTo, resourcesTo, withLengths, reads-subsystems, reads-tasks, reads-resources}
-use Rattle.reader.proofs.TextOfEntered.{enteredTo, enteredTo-long, enteredTo-there, enteredTo-else}
-use Rattle.reader.proofs.TextOfUses.{reads-uses}
-use Rattle.reader.proofs.TextOfLong.{text-long}
+use Rattle.exactly.specs.TextOf.{texts, subsystemText, taskText, resourceText, useText, textOf}
+use Rattle.exactly.proofs.PlanShape.{Shaped, there-or-not}
+use Rattle.exactly.proofs.SoundPlan.{Sound}
+use Rattle.exactly.proofs.SoundFacts.{accepted-some, accepted-admitted, accepted-sound}
+use Rattle.exactly.proofs.TextOfReads.{Reads, reads-then, reads-after}
+use Rattle.exactly.proofs.TextOfTables.{openedTo, openedTo-absent}
+use Rattle.exactly.proofs.TextOfRows.{tasksTo, resourcesTo, withLengths, reads-subsystems, reads-tasks, reads-resources}
+use Rattle.exactly.proofs.TextOfEntered.{enteredTo, enteredTo-long, enteredTo-there, enteredTo-else}
+use Rattle.exactly.proofs.TextOfUses.{reads-uses}
+use Rattle.exactly.proofs.TextOfLong.{text-long}
 
 module _ (p : Plan) (w : Sound p) where
   -- when all lengths are entered they are the plan's

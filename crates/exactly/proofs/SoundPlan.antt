@@ -10,9 +10,9 @@ use Rattle.plan.specs.declared.Plan.{Plan}
 use Rattle.plan.specs.Plan.{period, budget, owner, isGlobal, lengthOf, declares}
 use Rattle.plan.specs.Admission.{admitted}
 use Rattle.plan.specs.Accepted.{accepted}
-use Rattle.reader.proofs.PlanShape.{Shaped, there-or-not}
-use Rattle.reader.proofs.ListedTied.{Stands}
-use Rattle.reader.proofs.SoundTests.{SubsystemCase, TaskCase, ResourceCase, LengthCase, UseCase, OneCase, accepted-shows}
+use Rattle.exactly.proofs.PlanShape.{Shaped, there-or-not}
+use Rattle.exactly.proofs.ListedTied.{Stands}
+use Rattle.exactly.proofs.SoundTests.{SubsystemCase, TaskCase, ResourceCase, LengthCase, UseCase, OneCase, accepted-shows}
 
 -- the first n rows of subsystems are in range, and the others are 0
 pub record SubsystemsFit (n : ℕ) (periods budgets : List ℕ) : Type 0 where

@@ -10,10 +10,10 @@ use borrow.Author.Tests.{ne-eqb}
 use Rattle.text.specs.Bytes.{bytes, same}
 use Rattle.text.specs.Lines.{lines, onto, body, emptyOrNone, fields}
 use Rattle.text.specs.Numbers.{numbers, decimal, ofOne, ofTwo, ofThree}
 use Rattle.reader.specs.declared.Line.the-variants.{Subsystem, Task, Resource, Uses}
 use Rattle.reader.specs.Line.{ofNumbers, ofKind, ofKindField, ofFields, lineOf}
-use Rattle.reader.specs.TextOf.{tabbed}
-use Rattle.reader.proofs.TextOfDecimal.{Plain, decimal-number}
+use Rattle.exactly.specs.TextOf.{tabbed}
+use Rattle.exactly.proofs.TextOfDecimal.{Plain, decimal-number}
 
 -- a text that is one line, with this body
 pub record OneLine (l b : List ℕ) : Type 0 where

@@ -15,21 +15,21 @@ use Rattle.plan.specs.declared.Plan.{Plan}
 use Rattle.plan.specs.Plan.{period}
 use Rattle.plan.specs.Admission.{demand, firstNegative, admitted}
 use Rattle.plan.specs.Accepted.{accepted}
 use Rattle.reader.specs.declared.Line.{Line}
 use Rattle.reader.specs.declared.Line.the-variants.{Malformed}
 use Rattle.reader.specs.Numbers.{isAccepted}
 use Rattle.reader.specs.Line.{lineOf, kindOf}
 use Rattle.reader.specs.Reading.{emptyPlan, reading}
-use Rattle.reader.specs.Listed.{linesOf, lineAt, countOf, Condition, LineMeets, planAfter, planIn, Meets}
-use Rattle.reader.proofs.PlanShape.{Shaped}
-use Rattle.reader.proofs.ListedTied.{kindSaid, Tied}
-use Rattle.reader.proofs.ListedPairs.{tied-empty, tied-line}
-use Rattle.reader.proofs.ListedJudged.{planAfter-line}
-use Rattle.reader.proofs.Listed.{accepted-meets, accepted-plan}
-use Rattle.reader.proofs.SoundPlan.{Sound, sound-accepted}
-use Rattle.reader.proofs.SoundFacts.{Ranged, sound-ranged}
-use Rattle.reader.proofs.SoundLines.{sound-empty, sound-line}
-use Rattle.reader.proofs.SoundKinds.{kind-of-line}
+use Rattle.exactly.specs.Listed.{linesOf, lineAt, countOf, Condition, LineMeets, planAfter, planIn, Meets}
+use Rattle.exactly.proofs.PlanShape.{Shaped}
+use Rattle.exactly.proofs.ListedTied.{kindSaid, Tied}
+use Rattle.exactly.proofs.ListedPairs.{tied-empty, tied-line}
+use Rattle.exactly.proofs.ListedJudged.{planAfter-line}
+use Rattle.exactly.proofs.Listed.{accepted-meets, accepted-plan}
+use Rattle.exactly.proofs.SoundPlan.{Sound, sound-accepted}
+use Rattle.exactly.proofs.SoundFacts.{Ranged, sound-ranged}
+use Rattle.exactly.proofs.SoundLines.{sound-empty, sound-line}
+use Rattle.exactly.proofs.SoundKinds.{kind-of-line}
 
 -- the plan of some lines that meet their conditions
 record Built (ls : List Line) : Type 0 where

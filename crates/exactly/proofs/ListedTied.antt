@@ -13,13 +13,13 @@ use borrow.Author.Tests.{eqb-true, eqb-false}
 use Rattle.below.proofs.Search.{last-or-before}
 use Rattle.plan.specs.declared.Plan.{Plan}
 use Rattle.plan.specs.Plan.{declares}
 use Rattle.reader.specs.declared.Line.{Line}
 use Rattle.reader.specs.declared.Line.the-variants.{Subsystem, Task, Resource, Uses, Malformed}
 use Rattle.reader.specs.Line.{kindOf}
 use Rattle.reader.specs.Reading.{emptyPlan, withSubsystem, withTask, withResource, withUse, withLine}
-use Rattle.reader.specs.Listed.{lineAt, countOf, rowOf, budgetSaid, ownerSaid, InOrder, InRange}
-use Rattle.reader.proofs.PlanShape.{zeros, Shaped, shaped-empty, shaped-line}
-use Rattle.reader.proofs.ListedRows.{countOf-same, countOf-other, rowOf-new, rowOf-kept, lineAt-old, lineAt-new}
+use Rattle.exactly.specs.Listed.{lineAt, countOf, rowOf, budgetSaid, ownerSaid, InOrder, InRange}
+use Rattle.exactly.proofs.PlanShape.{zeros, Shaped, shaped-empty, shaped-line}
+use Rattle.exactly.proofs.ListedRows.{countOf-same, countOf-other, rowOf-new, rowOf-kept, lineAt-old, lineAt-new}
 
 -- what an R line says
 unfoldable pub kindSaid : Line → ℕ

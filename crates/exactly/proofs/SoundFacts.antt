@@ -12,10 +12,10 @@ use Rattle.plan.specs.declared.Plan.{Plan}
 use Rattle.plan.specs.Plan.{period, budget, owner, isGlobal, place, lengthOf, declares}
 use Rattle.plan.specs.Admission.{admitted}
 use Rattle.plan.specs.Accepted.{accepted}
-use Rattle.reader.proofs.PlanShape.{Shaped, there-or-not}
-use Rattle.reader.proofs.ListedTied.{Stands}
-use Rattle.reader.proofs.SoundPlan.{SubsystemsFit, TasksFit, KindsFit, LengthFits, UsesFit, Sound}
-use Rattle.reader.proofs.SoundTests.{SubsystemCase, TaskCase, ResourceCase, LengthCase, UseCase, OneCase, AcceptedCase, accepted-shows}
+use Rattle.exactly.proofs.PlanShape.{Shaped, there-or-not}
+use Rattle.exactly.proofs.ListedTied.{Stands}
+use Rattle.exactly.proofs.SoundPlan.{SubsystemsFit, TasksFit, KindsFit, LengthFits, UsesFit, Sound}
+use Rattle.exactly.proofs.SoundTests.{SubsystemCase, TaskCase, ResourceCase, LengthCase, UseCase, OneCase, AcceptedCase, accepted-shows}
 
 module _ (p : Plan) (shape : Shaped p) (e : accepted p ≡ true) where
   case : AcceptedCase p

@@ -8,10 +8,10 @@ use lib.Dec.{eqb}
 use lib.ListN.{length, List·getD-append}
 use lib.Seq.{getD-append-seam}
 use borrow.Author.Tests.{eqb-true, eq-eqb, ne-eqb}
 use Rattle.reader.specs.declared.Line.{Line}
 use Rattle.reader.specs.declared.Line.the-variants.{Task, Malformed}
 use Rattle.reader.specs.Line.{kindOf}
-use Rattle.reader.specs.Listed.{lineAt, countOf, rowOf, InOrder}
+use Rattle.exactly.specs.Listed.{lineAt, countOf, rowOf, InOrder}
 
 module _ (kind : ℕ) (l : Line) (ls : List Line) where
   -- the first line is of the kind

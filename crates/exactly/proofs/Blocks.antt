@@ -12,13 +12,13 @@ use Rattle.plan.specs.declared.Plan.{Plan}
 use Rattle.plan.specs.Accepted.{accepted}
 use Rattle.reader.specs.Numbers.{isAccepted}
 use Rattle.reader.specs.Reading.{reading}
-use Rattle.reader.specs.TextOf.{textOf}
-use Rattle.reader.proofs.PlanShape.{Shaped}
-use Rattle.reader.proofs.Sound.{read-shaped, read-accepted}
-use Rattle.reader.proofs.TextOf.{text-reads-back}
+use Rattle.exactly.specs.TextOf.{textOf}
+use Rattle.exactly.proofs.PlanShape.{Shaped}
+use Rattle.exactly.proofs.Sound.{read-shaped, read-accepted}
+use Rattle.exactly.proofs.TextOf.{text-reads-back}
 use Rattle.image.specs.Words.{byteAt, wordAt}
 use Rattle.image.specs.Block.{blockBytes, blockOf, planOf, isBlock, HasText, blockNumber}
 use Rattle.image.proofs.BlockLaws.{plan-of-block-of, same-refl, same-true}
 
 -- whatever the block, the plan that it writes has tables of their lengths
 plan-shaped : (b : List ℕ) → Shaped (planOf b)

@@ -7,14 +7,14 @@ use native.Mathlib.Nat.{le-step, lt-suc-self}
 use native.Mathlib.Omega.{arith}
 use Rattle.text.specs.Lines.{lines}
 use Rattle.plan.specs.declared.Plan.{Plan}
 use Rattle.reader.specs.declared.Verdict.the-variants.{Accepted}
 use Rattle.reader.specs.declared.Line.{Line}
 use Rattle.reader.specs.declared.Reading.{Reading}
 use Rattle.reader.specs.Numbers.{isAccepted}
 use Rattle.reader.specs.Line.{lineOf, kindOf}
 use Rattle.reader.specs.Conditions.{notGrammar, kindOrder, tooManyRows, noSuchRow, outOfRange, twice, twoSubsystems, aboveBudget}
 use Rattle.reader.specs.Reading.{firstOf, judged, withLine, readFrom}
-use Rattle.reader.specs.TextOf.{texts}
+use Rattle.exactly.specs.TextOf.{texts}
 
 -- a reading goes on with the rest of a text, after a line of a kind up to k, from the plan p
 pub record Onward (r : Reading) (rest : List ℕ) (k : ℕ) (p : Plan) : Type 0 where

@@ -11,7 +11,7 @@ use lib.ListN.{length, getD}
 use borrow.Author.Tests.{lt-ltb, le-ltb, le-leb, ne-eqb}
 use Rattle.text.specs.declared.Number.the-variants.{Written}
 use Rattle.text.specs.Numbers.{isDigit, digits, isNumber, worth, number, decimalOnto, decimal}
-use Rattle.reader.proofs.PlanShape.{there-or-not}
+use Rattle.exactly.proofs.PlanShape.{there-or-not}
 
 -- bytes past the tab and the line feed
 abbrev pub Plain : List ℕ → Type 0

@@ -10,9 +10,9 @@ use lib.Seq.{getD-set-same, getD-set-other}
 use Rattle.below.proofs.Search.{last-or-before}
 use Rattle.plan.specs.declared.Plan.{Plan}
 use Rattle.plan.specs.Plan.{place, lengthOf}
-use Rattle.reader.proofs.PlanShape.{place-task, place-resource, place-there}
-use Rattle.reader.proofs.SoundPlan.{Sound}
-use Rattle.reader.proofs.TextOfTables.{openedTo, openedTo-long}
+use Rattle.exactly.proofs.PlanShape.{place-task, place-resource, place-there}
+use Rattle.exactly.proofs.SoundPlan.{Sound}
+use Rattle.exactly.proofs.TextOfTables.{openedTo, openedTo-long}
 
 -- the lengths of task t at its first n resources entered into a table
 unfoldable pub entered : Plan → ℕ → ℕ → List ℕ → List ℕ

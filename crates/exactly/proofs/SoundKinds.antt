@@ -7,10 +7,10 @@ use native.Mathlib.Omega.{arith}
 use Rattle.text.specs.Bytes.{bytes, same}
 use Rattle.text.specs.Lines.{body, fields}
 use Rattle.text.specs.Numbers.{numbers, ofOne, ofTwo, ofThree}
 use Rattle.reader.specs.declared.Line.{Line}
 use Rattle.reader.specs.declared.Line.the-variants.{Subsystem, Task, Resource, Uses, Malformed}
 use Rattle.reader.specs.Line.{ofNumbers, ofKind, ofKindField, ofFields, lineOf}
-use Rattle.reader.proofs.ListedTied.{kindSaid}
+use Rattle.exactly.proofs.ListedTied.{kindSaid}
 
 -- a line of numbers, where none of the lines made of numbers is an R line
 kind-of-numbers : (f : List ℕ → Line) (fs : List (List ℕ)) → ((ns : List ℕ) → kindSaid (f ns) ≤ 1) → kindSaid (ofNumbers f fs) ≤ 1

@@ -11,15 +11,15 @@ use lib.Seq.{getD-set-same, getD-set-other}
 use Rattle.below.proofs.Search.{last-or-before}
 use Rattle.plan.specs.declared.Plan.{Plan}
 use Rattle.plan.specs.Plan.{budget, owner, isGlobal, place, lengthOf, declares}
 use Rattle.reader.specs.declared.Line.{Line}
 use Rattle.reader.specs.declared.Line.the-variants.{Subsystem, Task, Resource, Uses, Malformed}
 use Rattle.reader.specs.Reading.{emptyPlan, withSubsystem, withTask, withResource, withUse, withLine}
-use Rattle.reader.specs.Listed.{rowOf, ownerSaid, Condition}
-use Rattle.reader.proofs.PlanShape.{zeros, shaped-empty, shaped-line, place-task, place-resource, declares-not, declares-same, resource-own, resource-else, use-own, use-else, same-or-apart}
-use Rattle.reader.proofs.ListedRows.{no-resource-yet}
-use Rattle.reader.proofs.ListedTied.{kindSaid, Stands, Tied}
-use Rattle.reader.proofs.ListedTests.{global-met, local-met}
-use Rattle.reader.proofs.SoundPlan.{SubsystemsFit, TasksFit, KindsFit, LengthFits, UsesFit, Sound}
+use Rattle.exactly.specs.Listed.{rowOf, ownerSaid, Condition}
+use Rattle.exactly.proofs.PlanShape.{zeros, shaped-empty, shaped-line, place-task, place-resource, declares-not, declares-same, resource-own, resource-else, use-own, use-else, same-or-apart}
+use Rattle.exactly.proofs.ListedRows.{no-resource-yet}
+use Rattle.exactly.proofs.ListedTied.{kindSaid, Stands, Tied}
+use Rattle.exactly.proofs.ListedTests.{global-met, local-met}
+use Rattle.exactly.proofs.SoundPlan.{SubsystemsFit, TasksFit, KindsFit, LengthFits, UsesFit, Sound}
 
 -- the tables with one more row
 

@@ -13,14 +13,14 @@ use Rattle.text.specs.Lines.{lines}
 use Rattle.plan.specs.declared.Plan.{Plan}
 use Rattle.plan.specs.Plan.{period}
 use Rattle.plan.specs.Admission.{demand, firstNegative}
 use Rattle.reader.specs.declared.Verdict.the-variants.{Accepted, TooLong, NoSubsystem, NegativeMargin}
 use Rattle.reader.specs.declared.Reading.{Reading}
 use Rattle.reader.specs.Numbers.{number, beside, isAccepted}
 use Rattle.reader.specs.Reading.{mostBytes, emptyPlan, refused, readFrom, judgedWhole, reading}
-use Rattle.reader.specs.Listed.{linesOf, countOf, LineMeets, planAfter, planIn, Meets, FirstBroken}
-use Rattle.reader.specs.Listed.FirstBroken.{tooLong, badLine, noSubsystem, negative}
-use Rattle.reader.proofs.ListedPairs.{tied-empty}
-use Rattle.reader.proofs.ListedJudged.{Outcome, SoFar, outcome}
+use Rattle.exactly.specs.Listed.{linesOf, countOf, LineMeets, planAfter, planIn, Meets, FirstBroken}
+use Rattle.exactly.specs.Listed.FirstBroken.{tooLong, badLine, noSubsystem, negative}
+use Rattle.exactly.proofs.ListedPairs.{tied-empty}
+use Rattle.exactly.proofs.ListedJudged.{Outcome, SoFar, outcome}
 
 -- what reading answers: the plan of a text that meets the conditions, or the first condition broken
 pub data Result (text : List ℕ) : Reading → Type 0 where

@@ -10,11 +10,11 @@ use Rattle.text.specs.Bytes.{bytes}
 use Rattle.text.specs.Numbers.{decimal}
 use Rattle.plan.specs.declared.Plan.{Plan}
 use Rattle.plan.specs.Plan.{period, budget, owner, isGlobal, place, lengthOf, declares}
 use Rattle.reader.specs.Reading.{mostBytes}
-use Rattle.reader.specs.TextOf.{tabbed, texts, subsystemText, taskText, kindText, resourceText, useText, textOf}
-use Rattle.reader.proofs.SoundPlan.{Sound}
-use Rattle.reader.proofs.SoundFacts.{sound-ranged}
-use Rattle.reader.proofs.TextOfDecimal.{decimal-long}
+use Rattle.exactly.specs.TextOf.{tabbed, texts, subsystemText, taskText, kindText, resourceText, useText, textOf}
+use Rattle.exactly.proofs.SoundPlan.{Sound}
+use Rattle.exactly.proofs.SoundFacts.{sound-ranged}
+use Rattle.exactly.proofs.TextOfDecimal.{decimal-long}
 
 -- texts of at most c bytes each
 texts-long : (n c : ℕ) (f : ℕ → List ℕ) → ((i : ℕ) → i < n → length (f i) ≤ c) → length (texts n f) ≤ n * c

@@ -17,21 +17,21 @@ use Rattle.text.specs.Numbers.{decimal}
 use Rattle.plan.specs.declared.Plan.{Plan}
 use Rattle.plan.specs.Limits.{undeclared}
 use Rattle.plan.specs.Plan.{budget, owner, isGlobal, place, lengthOf, declares}
 use Rattle.reader.specs.declared.Line.the-variants.{Uses}
 use Rattle.reader.specs.Line.{kindOf}
 use Rattle.reader.specs.Conditions.{notGrammar, kindOrder, tooManyRows, noSuchRow, outOfRange, twice, twoSubsystems, aboveBudget}
 use Rattle.reader.specs.Reading.{withLine, withUse}
-use Rattle.reader.specs.TextOf.{tabbed, texts, useText}
-use Rattle.reader.proofs.PlanShape.{there-or-not, declares-not, declares-same}
-use Rattle.reader.proofs.ListedTied.{Stands}
-use Rattle.reader.proofs.SoundPlan.{LengthFits, Sound}
-use Rattle.reader.proofs.SoundFacts.{sound-ranged}
-use Rattle.reader.proofs.TextOfDecimal.{decimal-plain}
-use Rattle.reader.proofs.TextOfLines.{use-line}
-use Rattle.reader.proofs.TextOfReads.{Reads, reads-none, reads-texts, Passes}
-use Rattle.reader.proofs.TextOfTables.{openedTo, openedTo-there}
-use Rattle.reader.proofs.TextOfRows.{withLengths, reads-fields}
-use Rattle.reader.proofs.TextOfEntered.{entered, enteredTo, entered-else, enteredTo-there, enteredTo-else}
+use Rattle.exactly.specs.TextOf.{tabbed, texts, useText}
+use Rattle.exactly.proofs.PlanShape.{there-or-not, declares-not, declares-same}
+use Rattle.exactly.proofs.ListedTied.{Stands}
+use Rattle.exactly.proofs.SoundPlan.{LengthFits, Sound}
+use Rattle.exactly.proofs.SoundFacts.{sound-ranged}
+use Rattle.exactly.proofs.TextOfDecimal.{decimal-plain}
+use Rattle.exactly.proofs.TextOfLines.{use-line}
+use Rattle.exactly.proofs.TextOfReads.{Reads, reads-none, reads-texts, Passes}
+use Rattle.exactly.proofs.TextOfTables.{openedTo, openedTo-there}
+use Rattle.exactly.proofs.TextOfRows.{withLengths, reads-fields}
+use Rattle.exactly.proofs.TextOfEntered.{entered, enteredTo, entered-else, enteredTo-there, enteredTo-else}
 
 module _ (p : Plan) (w : Sound p) where
   -- the plan read before the U line of task t and resource n

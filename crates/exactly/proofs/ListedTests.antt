@@ -11,12 +11,12 @@ use Rattle.below.specs.Below.{any}
 use Rattle.below.proofs.Search.{any-true, any-false}
 use Rattle.plan.specs.declared.Plan.{Plan}
 use Rattle.plan.specs.Plan.{budget, owner, isGlobal, declares}
 use Rattle.reader.specs.declared.Line.{Line}
 use Rattle.reader.specs.declared.Line.the-variants.{Subsystem, Task, Resource, Uses, Malformed}
 use Rattle.reader.specs.Line.{kindOf}
 use Rattle.reader.specs.Conditions.{notGrammar, kindOrder, tooManyRows, noSuchRow, outOfRange, twice, twoSubsystems, aboveBudget}
-use Rattle.reader.specs.Listed.{lineAt, countOf, rowOf, budgetSaid, ownerSaid, Global, OfGrammar, InOrder, RowsLeft, RowsThere, InRange, Once, FromOneSubsystem, WithinBudget}
-use Rattle.reader.proofs.ListedTied.{said-global, said-local, Stands, Tied}
+use Rattle.exactly.specs.Listed.{lineAt, countOf, rowOf, budgetSaid, ownerSaid, Global, OfGrammar, InOrder, RowsLeft, RowsThere, InRange, Once, FromOneSubsystem, WithinBudget}
+use Rattle.exactly.proofs.ListedTied.{said-global, said-local, Stands, Tied}
 
 -- a test that is true exactly when a condition is broken
 pub record Decides (b : Bool) (A : Type 0) : Type 0 where

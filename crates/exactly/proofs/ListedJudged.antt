@@ -12,18 +12,18 @@ use lib.Seq.{take-suc, take-all, drop-cons}
 use borrow.Author.Tests.{ne-eqb}
 use Rattle.below.proofs.Search.{last-or-before}
 use Rattle.plan.specs.declared.Plan.{Plan}
 use Rattle.reader.specs.declared.Verdict.{Verdict}
 use Rattle.reader.specs.declared.Verdict.the-variants.{Accepted}
 use Rattle.reader.specs.declared.Line.{Line}
 use Rattle.reader.specs.declared.Line.the-variants.{Malformed}
 use Rattle.reader.specs.declared.Reading.{Reading}
 use Rattle.reader.specs.Numbers.{number, beside, isAccepted}
 use Rattle.reader.specs.Line.{lineOf, kindOf}
 use Rattle.reader.specs.Reading.{emptyPlan, firstOf, judged, withLine, refused, readFrom}
-use Rattle.reader.specs.Listed.{lineAt, Condition, LineMeets, planAfter}
-use Rattle.reader.proofs.ListedTied.{Tied}
-use Rattle.reader.proofs.ListedPairs.{tied-line}
-use Rattle.reader.proofs.ListedTests.{Decides, decides-grammar, decides-order, decides-rows-left, decides-rows-there, decides-range, decides-once, decides-one-subsystem, decides-budget}
+use Rattle.exactly.specs.Listed.{lineAt, Condition, LineMeets, planAfter}
+use Rattle.exactly.proofs.ListedTied.{Tied}
+use Rattle.exactly.proofs.ListedPairs.{tied-line}
+use Rattle.exactly.proofs.ListedTests.{Decides, decides-grammar, decides-order, decides-rows-left, decides-rows-there, decides-range, decides-once, decides-one-subsystem, decides-budget}
 
 -- a verdict on line n that tells the first of some conditions that is broken, if one is
 pub data Judgement (C : ℕ → Type 0) (n : ℕ) : Verdict → Type 0 where

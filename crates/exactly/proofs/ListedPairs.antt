@@ -10,14 +10,14 @@ use lib.ListN.{length, length-append}
 use Rattle.below.proofs.Search.{last-or-before}
 use Rattle.plan.specs.declared.Plan.{Plan}
 use Rattle.plan.specs.Plan.{lengthOf, declares}
 use Rattle.reader.specs.declared.Line.{Line}
 use Rattle.reader.specs.declared.Line.the-variants.{Subsystem, Task, Resource, Uses, Malformed}
 use Rattle.reader.specs.Line.{kindOf}
 use Rattle.reader.specs.Reading.{emptyPlan, withSubsystem, withTask, withResource, withUse, withLine}
-use Rattle.reader.specs.Listed.{countOf, InOrder, Condition}
-use Rattle.reader.proofs.PlanShape.{same-or-apart, declares-not, declares-short, declares-same, resource-own, resource-else, use-own, use-else}
-use Rattle.reader.proofs.ListedRows.{no-resource-yet, lineAt-old, lineAt-new}
-use Rattle.reader.proofs.ListedTied.{use-short, Tables, UsedAt, Stands, Pairs, Tied, latest-empty, latest-line, tables-empty, tables-subsystem, tables-task, tables-resource, tables-use}
+use Rattle.exactly.specs.Listed.{countOf, InOrder, Condition}
+use Rattle.exactly.proofs.PlanShape.{same-or-apart, declares-not, declares-short, declares-same, resource-own, resource-else, use-own, use-else}
+use Rattle.exactly.proofs.ListedRows.{no-resource-yet, lineAt-old, lineAt-new}
+use Rattle.exactly.proofs.ListedTied.{use-short, Tables, UsedAt, Stands, Pairs, Tied, latest-empty, latest-line, tables-empty, tables-subsystem, tables-task, tables-resource, tables-use}
 
 module _ (above : List Line) (l : Line) (t r : ℕ) where
   long : length (above ++ (l ∷ [])) ≡ length above + 1
