@@ -1,0 +1,28 @@
+-- "The run program", one line: an event line on a state, with its printed line behind the fill of a buffer. 33 keeps state and buffer.
+use mathlib.Core.Bool.{Bool, true, false}
+use mathlib.Core.List.{List}
+use Prim.Native.Nat.{ℕ, _+_}
+use lib.ListN.{length}
+use Rattle.plan.specs.declared.Plan.{Plan}
+use Rattle.state.specs.declared.State.{State}
+use Rattle.step.specs.declared.Outcome.{Outcome}
+use Rattle.line.specs.Printed.{printed}
+use Rattle.line.specs.Filled.{hasRoom, outAfter}
+use Rattle.line.specs.Run.{lineGives}
+use Rattle.run.specs.declared.Lined.{Lined}
+
+-- an outcome whose printed line has room is taken over; otherwise 33, and nothing changes
+unfoldable pub linedBy : State → ℕ → Outcome → List ℕ → ℕ → Lined
+linedBy s n o out fill =
+    elim (hasRoom out fill (printed n o)) [
+      | true ↦ record { number = o .answer; state = o .state; fill = fill + length (printed n o) }
+      | false ↦ record { number = 33; state = s; fill = fill }
+    ]
+
+-- the n-th event line on a legal state
+unfoldable pub lined : Plan → State → ℕ → List ℕ → List ℕ → ℕ → Lined
+lined p s n line out fill = linedBy s n (lineGives p s line) out fill
+
+-- the buffer then
+unfoldable pub linedOut : Plan → State → ℕ → List ℕ → List ℕ → ℕ → List ℕ
+linedOut p s n line out fill = outAfter out fill (printed n (lineGives p s line))
