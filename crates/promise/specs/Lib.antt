@@ -1,1 +1,2 @@
 pub mod SmallSet
+pub mod Budgets
