@@ -1,2 +1,3 @@
 pub mod SmallSet
 pub mod Budgets
+pub mod Sections
