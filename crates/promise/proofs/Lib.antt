@@ -6,3 +6,6 @@ pub mod Budgets
 pub mod Answers
 pub mod ByStep
 pub mod Sections
+pub mod Lent
+pub mod Calls
+pub mod BudgetsInC
