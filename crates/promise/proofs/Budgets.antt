@@ -1,37 +1,34 @@
 -- Demand 3 for the scheduler holds: the theorem of crate `supply`, over the subsystems that the tick answers name.
-use mathlib.Core.Path.{_≡_, refl, sym, ap, _∙_}
+use mathlib.Core.Path.{_≡_, refl, ap}
 use mathlib.Core.Bool.{Bool, true, false}
-use mathlib.Core.List.{List, [], _∷_, map}
-use Prim.Native.Nat.{ℕ, _+_, _-_, _*_, _≤_, _<_}
+use mathlib.Core.List.{List, [], _∷_}
+use Prim.Native.Nat.{ℕ, _*_}
 use native.Mathlib.Omega.{arith}
-use lib.ListN.{length, take, drop, length-drop}
+use lib.ListN.{drop, length-drop}
 use lib.Seq.{take-all}
-use Rattle.supply.specs.Charges.{charges, count, periodOf, Exact}
+use Rattle.supply.specs.Charges.{charges, periodOf, Exact}
 use Rattle.supply.proofs.Theorem.{exact}
 use Rattle.plan.specs.declared.Plan.{Plan}
-use Rattle.plan.specs.Plan.{period, budget}
-use Rattle.plan.specs.Accepted.{accepted}
-use Rattle.plan.specs.Facts.{Accepted}
+use Rattle.plan.specs.Plan.{period}
 use Rattle.plan.proofs.Facts.{accepted-facts}
 use Rattle.state.specs.declared.State.{State}
 use Rattle.state.specs.Fresh.{fresh}
-use Rattle.step.specs.declared.Outcome.{Outcome}
 use Rattle.step.specs.Step.{stepped}
-use Rattle.promise.specs.Budgets.{Event, isTick, outcomes, ofTicks, charged, GetsBudget, BudgetsExact}
+use Rattle.promise.specs.Budgets.{Event, isTick, outcomes, ofTicks, tickAnswers, GetsBudget, BudgetsExact}
 use Rattle.promise.proofs.Scheduler.{given, scheduler, scheduler-assumed, scheduler-fresh}
 
 -- what the ticks charge is what their answers name
-pub charges-named : (p : Plan) (s : State) (es : List Event) → charges (scheduler p) s es ≡ charged es (outcomes (stepped p) s es)
-unfolding charges charged ofTicks outcomes
+pub charges-named : (p : Plan) (s : State) (es : List Event) → charges (scheduler p) s es ≡ tickAnswers es (outcomes (stepped p) s es)
+unfolding charges tickAnswers ofTicks outcomes
 charges-named p s [] = refl
 charges-named p s (e ∷ es) = go (isTick e) (charges-named p (given p s e .state) es)
   where
-    go : (b : Bool) → charges (scheduler p) (given p s e .state) es ≡ charged es (outcomes (stepped p) (given p s e .state) es)
+    go : (b : Bool) → charges (scheduler p) (given p s e .state) es ≡ tickAnswers es (outcomes (stepped p) (given p s e .state) es)
         → _≡_ {A = List ℕ}
         (elim b [ true ↦ given p s e .subsystem ∷ charges (scheduler p) (given p s e .state) es | false ↦ charges (scheduler p) (given p s e .state) es ])
         (elim b [
-          | true ↦ given p s e .subsystem ∷ charged es (outcomes (stepped p) (given p s e .state) es)
-          | false ↦ charged es (outcomes (stepped p) (given p s e .state) es)
+          | true ↦ given p s e .subsystem ∷ tickAnswers es (outcomes (stepped p) (given p s e .state) es)
+          | false ↦ tickAnswers es (outcomes (stepped p) (given p s e .state) es)
         ])
     go true q = ap (λ l. given p s e .subsystem ∷ l) q
     go false q = q

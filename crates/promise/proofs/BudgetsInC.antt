@@ -1,5 +1,5 @@
 -- Demand 3 over the calls from C holds.
-use mathlib.Core.Path.{_≡_, refl, sym, ap, _∙_}
+use mathlib.Core.Path.{_≡_, ap}
 use mathlib.Core.List.{List, map, map-map}
 use Prim.Native.Nat.{ℕ, _<_}
 use native.Mathlib.Omega.{arith}
@@ -11,12 +11,12 @@ use Rattle.reader.specs.Reading.{reading}
 use Rattle.state.specs.Fresh.{fresh}
 use Rattle.step.specs.declared.Outcome.{Outcome}
 use Rattle.step.specs.Step.{stepped}
-use Rattle.image.specs.Image.{imageBytes, imageOf}
+use Rattle.image.specs.Image.{imageBytes}
 use Rattle.host.specs.Read.{readCall}
 use Rattle.host.specs.Fresh.{freshCall}
 use Rattle.host.specs.Step.{StepCall, stepLeft, stepGives}
-use Rattle.promise.specs.Budgets.{Event, outcomes, charged}
-use Rattle.promise.specs.BudgetsInC.{stepCalls, chargedInC, CallsExact, HostExact, BudgetsExactInC}
+use Rattle.promise.specs.Budgets.{Event, outcomes, tickAnswers}
+use Rattle.promise.specs.BudgetsInC.{tickAnswersInC, CallsExact, HostExact, BudgetsExactInC}
 use Rattle.promise.proofs.Scheduler.{fresh-kept}
 use Rattle.promise.proofs.Budgets.{budgets-exact}
 use Rattle.promise.proofs.Answers.{never}
@@ -25,8 +25,8 @@ use Rattle.promise.proofs.Calls.{ImageLaws, fresh-given, calls-given}
 
 -- the calls of a run name and answer what its outcomes do
 
-named-given : (es : List Event) (os : List Outcome) → chargedInC es (map stepGives os) ≡ charged es os
-unfolding chargedInC charged stepGives
+named-given : (es : List Event) (os : List Outcome) → tickAnswersInC es (map stepGives os) ≡ tickAnswers es os
+unfolding tickAnswersInC tickAnswers stepGives
 named-given es os = rw (map-map (λ (c : StepCall). c .subsystem) stepGives os)
 
 never-given : (p : Plan) (es : List Event) (n : ℕ) → 11 < n → count n (map (λ c. c .number) (map stepGives (outcomes (stepped p) (fresh p) es))) ≡ 0

@@ -1,7 +1,7 @@
 -- Demand 3 through the step that tests plan and state record: both tests pass at each event, so the run is the same.
 use mathlib.Core.Path.{_≡_, refl, ap}
 use mathlib.Core.Bool.{true}
-use mathlib.Core.List.{List, [], _∷_, map}
+use mathlib.Core.List.{List, [], _∷_}
 use Prim.Native.Nat.{ℕ}
 use native.Mathlib.Omega.{arith}
 use Rattle.plan.specs.declared.Plan.{Plan}
@@ -13,7 +13,7 @@ use Rattle.state.proofs.Facts.{facts-legal}
 use Rattle.step.specs.Step.{stepped, step}
 use Rattle.step.proofs.Kept.{Kept}
 use Rattle.step.proofs.Stepped.{stepped-kept}
-use Rattle.promise.specs.Budgets.{Event, outcomes, StepsExact, BudgetsExactByStep}
+use Rattle.promise.specs.Budgets.{Event, outcomes, BudgetsExactByStep}
 use Rattle.promise.proofs.Scheduler.{given, fresh-kept}
 use Rattle.promise.proofs.Budgets.{budgets-exact}
 use Rattle.promise.proofs.Answers.{never}

@@ -1,5 +1,5 @@
 -- "Calls from C": on a block that writes an accepted plan and the image of a legal state, the calls give what the rules say, and leave such an image.
-use mathlib.Core.Path.{_≡_, refl, sym, ap, _∙_}
+use mathlib.Core.Path.{_≡_, refl, ap}
 use mathlib.Core.Bool.{true}
 use mathlib.Core.List.{List, [], _∷_, map}
 use Prim.Native.Nat.{ℕ}
@@ -16,11 +16,10 @@ use Rattle.state.proofs.Facts.{facts-legal}
 use Rattle.step.specs.Step.{stepped}
 use Rattle.step.proofs.Kept.{Kept}
 use Rattle.step.proofs.Stepped.{stepped-kept}
-use Rattle.image.specs.Block.{blockBytes, isBlock, planOf}
 use Rattle.image.specs.Image.{imageBytes, imageOf, stateOf, isImage}
 use Rattle.image.specs.Opening.{bothLong, openedNumber}
 use Rattle.host.specs.Fresh.{freshLeft, freshCall}
-use Rattle.host.specs.Step.{StepCall, stepLeft, stepGives, stepCall}
+use Rattle.host.specs.Step.{StepCall, stepGives, stepCall}
 use Rattle.promise.specs.Budgets.{Event, outcomes}
 use Rattle.promise.specs.BudgetsInC.{stepCalls}
 use Rattle.promise.proofs.Scheduler.{given}

@@ -1,8 +1,8 @@
 -- "Calls from C": the block that an accepted text leaves is a block of the right length, and it writes the plan that was read.
-use mathlib.Core.Path.{_≡_, refl, ap, _∙_}
+use mathlib.Core.Path.{_≡_, refl}
 use mathlib.Core.Bool.{Bool, true, false}
-use mathlib.Core.List.{List, _++_}
-use Prim.Native.Nat.{ℕ, _+_}
+use mathlib.Core.List.{List}
+use Prim.Native.Nat.{ℕ}
 use native.Mathlib.Omega.{arith}
 use lib.Dec.{eqb}
 use lib.ListN.{length, length-append}
@@ -13,8 +13,7 @@ use Rattle.plan.specs.Accepted.{accepted}
 use Rattle.reader.specs.declared.Reading.{Reading}
 use Rattle.reader.specs.Numbers.{number, beside, isAccepted}
 use Rattle.reader.specs.Reading.{reading}
-use Rattle.image.specs.Words.{words}
-use Rattle.image.specs.Block.{blockBytes, subsystemWords, blockOf, planOf, isBlock}
+use Rattle.image.specs.Block.{blockBytes, blockOf, planOf, isBlock}
 use Rattle.image.proofs.WordLaws.{length-words}
 use Rattle.image.proofs.BlockLaws as block-laws
 use Rattle.image.proofs.BlockLaws.{subsystems-long, plan-of-block-of}

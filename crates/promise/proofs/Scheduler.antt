@@ -1,12 +1,10 @@
 -- The scheduler of an accepted plan is a system of crate `supply` and meets what is assumed there.
-use mathlib.Core.Path.{_≡_, refl, sym, ap, _∙_}
+use mathlib.Core.Path.{_≡_, ap}
 use mathlib.Core.Logic.{⊎-elim}
-use mathlib.Core.Bool.{Bool, true, false, cond}
+use mathlib.Core.Bool.{true, false}
 use Prim.Native.Nat.{ℕ, _+_, _*_, _≤_, _<_}
 use native.Mathlib.Omega.{arith}
-use lib.Dec.{leb, eqb}
 use borrow.Author.Tests.{leb-true, leb-false, eqb-true, eqb-false}
-use Rattle.below.specs.Below.{sum}
 use Rattle.below.specs.Quotient.{roundedUp}
 use Rattle.below.proofs.Listed.{getD-listed}
 use Rattle.below.proofs.Tests.{decided}

@@ -1,21 +1,21 @@
 -- A section never keeps the processor from a higher row for longer than its declared length: each tick to a lower row takes one from what is left of it.
-use mathlib.Core.Path.{_≡_, refl, sym, ap, _∙_}
+use mathlib.Core.Path.{_≡_, refl}
 use mathlib.Core.Bool.{Bool, true, false, cond}
 use mathlib.Core.List.{List, [], _∷_}
 use Prim.Native.Nat.{ℕ, _+_, _≤_, _<_}
 use native.Mathlib.Nat.{le-trans}
 use native.Mathlib.Omega.{arith}
-use lib.Dec.{leb, ltb}
+use lib.Dec.{ltb}
 use borrow.Author.Tests.{ltb-true, le-leb, lt-leb}
 use Rattle.below.specs.Below.{any}
 use Rattle.below.proofs.Search.{any-true, any-false}
-use Rattle.supply.specs.Assumed.{Assumed, Pressed, atLeastAsHigh}
+use Rattle.supply.specs.Assumed.{Pressed, atLeastAsHigh}
 use Rattle.plan.specs.declared.Plan.{Plan}
-use Rattle.plan.specs.Plan.{owner, lengthOf, level}
+use Rattle.plan.specs.Plan.{level}
 use Rattle.plan.specs.Facts.{Accepted}
 use Rattle.plan.proofs.Facts.{accepted-facts}
 use Rattle.state.specs.declared.State.{State}
-use Rattle.state.specs.State.{taskAt, leftOf, lastHeld, inSection, sectionLeft}
+use Rattle.state.specs.State.{taskAt, sectionLeft}
 use Rattle.state.specs.Facts.{Legal}
 use Rattle.state.proofs.Facts.{legal-facts}
 use Rattle.state.proofs.Tasks.{section-global, section-declares}
@@ -23,8 +23,8 @@ use Rattle.step.specs.Step.{stepped}
 use Rattle.step.specs.Strict.{holdsBack, strictOf}
 use Rattle.step.proofs.Kept.{Kept}
 use Rattle.step.proofs.Strict.{HoldsBack, holdsBack-facts, strict-one, strict-none, strict-blocking}
-use Rattle.promise.specs.Budgets.{Event, isTick, outcomes, ofTicks, charged}
-use Rattle.promise.specs.Sections.{Due, DueThroughout, countLower, WithinSection, HeldUp, SectionsBounded}
+use Rattle.promise.specs.Budgets.{Event, isTick, outcomes, ofTicks, tickAnswers}
+use Rattle.promise.specs.Sections.{Due, DueThroughout, countLower, WithinSection, SectionsBounded}
 use Rattle.promise.proofs.Scheduler.{given, scheduler, scheduler-assumed}
 
 -- what an event gives to lower rows and leaves of what holds the row back
@@ -52,21 +52,21 @@ module _ (p : Plan) (A : Accepted p) (row : ℕ) (there : row < p .subsystems) w
 
   -- the ticks to lower rows are at most what holds the row back to begin with
   Bounded : State → List Event → Type 0
-  Bounded s es = countLower p row (charged es (outcomes (stepped p) s es)) ≤ strictOf p s row
+  Bounded s es = countLower p row (tickAnswers es (outcomes (stepped p) s es)) ≤ strictOf p s row
 
   bounded-next : (s : State) (S : Kept p s) (D : Due p s row) (e : Event) (es : List Event) → Bounded (given p s e .state) es → Bounded s (e ∷ es)
-  unfolding Bounded countLower charged ofTicks outcomes
+  unfolding Bounded countLower tickAnswers ofTicks outcomes
   bounded-next s S D e es h = go (isTick e) refl
     where
       rest : List ℕ
-      rest = charged es (outcomes (stepped p) (given p s e .state) es)
+      rest = tickAnswers es (outcomes (stepped p) (given p s e .state) es)
 
       go : (b : Bool) → isTick e ≡ b → countLower p row (elim b [ true ↦ given p s e .subsystem ∷ rest | false ↦ rest ]) ≤ strictOf p s row
       go true t = omega (arith, tick-takes s S D e t)
       go false t = le-trans h (kept s S D e)
 
   bounded : (s : State) → Kept p s → (es : List Event) → DueThroughout p s row es → Bounded s es
-  unfolding Bounded countLower charged ofTicks outcomes
+  unfolding Bounded countLower tickAnswers ofTicks outcomes
   bounded s S [] D = omega arith
   bounded s S (e ∷ es) D = bounded-next s S (D .0) e es (bounded (given p s e .state) (scheduler-assumed p A .legal-next s e S) es (D .1))
 
@@ -80,6 +80,7 @@ module _ (p : Plan) (s : State) (L : Legal p s) (row : ℕ) where
     lower = H .lower;
     inside = H .inside;
     global = section-global p k (taskAt s k) (L .task k h) (H .inside);
+    reaches = H .reaches;
     declared = section-declares p k (taskAt s k) (L .task k h) (H .inside);
     left = omega (arith, strict-one p s L row k h H);
     length = omega (arith, strict-one p s L row k h H);

@@ -38,9 +38,9 @@ ofTicks [] ns = []
 ofTicks (e ∷ es) [] = []
 ofTicks (e ∷ es) (n ∷ ns) = elim (isTick e) [ true ↦ n ∷ ofTicks es ns | false ↦ ofTicks es ns ]
 
--- "For a tick, subsystem and task are those charged and run": the subsystems that the tick answers name
-unfoldable pub charged : List Event → List Outcome → List ℕ
-charged es os = ofTicks es (map (λ o. o .subsystem) os)
+-- "For a tick, subsystem and task are those charged and run": the subsystem that each tick answer names
+unfoldable pub tickAnswers : List Event → List Outcome → List ℕ
+tickAnswers es os = ofTicks es (map (λ o. o .subsystem) os)
 
 -- demand 3 for subsystem s: exactly its budget of the ticks of each complete period, at most its budget of those of the unfinished one
 pub record GetsBudget (p : Plan) (ticks : List ℕ) (s : ℕ) : Type 0 where
@@ -50,11 +50,11 @@ pub record GetsBudget (p : Plan) (ticks : List ℕ) (s : ℕ) : Type 0 where
 -- demand 3: an accepted plan, started fresh, and any events
 abbrev pub BudgetsExact : Type 0
 BudgetsExact =
-    (p : Plan) → accepted p ≡ true → (es : List Event) → (s : ℕ) → s < p .subsystems → GetsBudget p (charged es (outcomes (stepped p) (fresh p) es)) s
+    (p : Plan) → accepted p ≡ true → (es : List Event) → (s : ℕ) → s < p .subsystems → GetsBudget p (tickAnswers es (outcomes (stepped p) (fresh p) es)) s
 
 -- the same through the step that tests the plan record and the state record at each event: neither is ever refused
 pub record StepsExact (p : Plan) (es : List Event) (os : List Outcome) : Type 0 where
-  pub budgets : (s : ℕ) → s < p .subsystems → GetsBudget p (charged es os) s
+  pub budgets : (s : ℕ) → s < p .subsystems → GetsBudget p (tickAnswers es os) s
   pub never-31 : count 31 (map (λ o. o .answer) os) ≡ 0
   pub never-32 : count 32 (map (λ o. o .answer) os) ≡ 0
 

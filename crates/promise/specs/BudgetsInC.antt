@@ -19,13 +19,13 @@ stepCalls block before (e ∷ es) =
     let c = stepCall block (before .image) (e .kind) (e .task) (e .resource) (before .subsystem) (before .running) (before .ended) in
     c ∷ stepCalls block c es
 
--- the subsystems that the calls with kind 4 name
-unfoldable pub chargedInC : List Event → List StepCall → List ℕ
-chargedInC es cs = ofTicks es (map (λ c. c .subsystem) cs)
+-- the subsystem that each call with kind 4 names
+unfoldable pub tickAnswersInC : List Event → List StepCall → List ℕ
+tickAnswersInC es cs = ofTicks es (map (λ c. c .subsystem) cs)
 
 -- demand 3 for a plan, and no call of the run is refused for a buffer, the block or the image
 pub record CallsExact (p : Plan) (es : List Event) (cs : List StepCall) : Type 0 where
-  pub budgets : (s : ℕ) → s < p .subsystems → GetsBudget p (chargedInC es cs) s
+  pub budgets : (s : ℕ) → s < p .subsystems → GetsBudget p (tickAnswersInC es cs) s
   pub never-31 : count 31 (map (λ c. c .number) cs) ≡ 0
   pub never-32 : count 32 (map (λ c. c .number) cs) ≡ 0
   pub never-34 : count 34 (map (λ c. c .number) cs) ≡ 0

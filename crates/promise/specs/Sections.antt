@@ -6,6 +6,7 @@ use Prim.Native.Nat.{ℕ, _+_, _≤_, _<_}
 use lib.Dec.{ltb}
 use Rattle.plan.specs.declared.Plan.{Plan}
 use Rattle.plan.specs.Plan.{owner, isGlobal, lengthOf, declares, level}
+use Rattle.plan.specs.Ceiling.{globalCeiling}
 use Rattle.plan.specs.Admission.{blocking}
 use Rattle.plan.specs.Accepted.{accepted}
 use Rattle.state.specs.declared.State.{State}
@@ -13,7 +14,7 @@ use Rattle.state.specs.State.{taskAt, leftOf, lastHeld, inSection, sectionLeft}
 use Rattle.state.specs.Sized.{Sized}
 use Rattle.state.specs.Legal.{legal}
 use Rattle.step.specs.Step.{stepped}
-use Rattle.promise.specs.Budgets.{Event, outcomes, charged}
+use Rattle.promise.specs.Budgets.{Event, outcomes, tickAnswers}
 
 -- a row, or one at least as high, has budget left, so that the processor is due to it
 pub record Due (p : Plan) (s : State) (row : ℕ) : Type 0 where
@@ -32,13 +33,15 @@ unfoldable pub countLower : Plan → ℕ → List ℕ → ℕ
 countLower p row [] = 0
 countLower p row (c ∷ cs) = cond (ltb (level p row) (level p c)) 1 0 + countLower p row cs
 
--- one task of a lower row is inside a section to begin with, and n ticks are at most what is left of it, so at most the length declared for it
+-- one task of a lower row holds a global to begin with, of a ceiling that reaches the row; n ticks are at most what is left of its section, so at
+-- most the length that it declares
 pub record WithinSection (p : Plan) (s : State) (row n : ℕ) : Type 0 where
   pub task : ℕ
   pub there : task < p .tasks
   pub lower : level p row < level p (owner p task)
   pub inside : inSection p (taskAt s task) ≡ true
   pub global : isGlobal p (lastHeld (taskAt s task)) ≡ true
+  pub reaches : globalCeiling p (lastHeld (taskAt s task)) ≤ level p row
   pub declared : declares p task (lastHeld (taskAt s task)) ≡ true
   pub left : n ≤ sectionLeft p s task .0
   pub length : n ≤ lengthOf p task (lastHeld (taskAt s task))
@@ -52,4 +55,4 @@ pub record HeldUp (p : Plan) (s : State) (row n : ℕ) : Type 0 where
 abbrev pub SectionsBounded : Type 0
 SectionsBounded =
     (p : Plan) → accepted p ≡ true → (s : State) → Sized s → legal p s ≡ true → (row : ℕ) → row < p .subsystems
-    → (es : List Event) → DueThroughout p s row es → HeldUp p s row (countLower p row (charged es (outcomes (stepped p) s es)))
+    → (es : List Event) → DueThroughout p s row es → HeldUp p s row (countLower p row (tickAnswers es (outcomes (stepped p) s es)))
