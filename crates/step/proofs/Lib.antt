@@ -18,3 +18,4 @@ pub mod Spends
 pub mod Lowers
 pub mod HeldBack
 pub mod TickHeldBack
+pub mod Lending
