@@ -19,3 +19,5 @@ pub mod Lowers
 pub mod HeldBack
 pub mod TickHeldBack
 pub mod Lending
+pub mod Asking
+pub mod Rest
