@@ -21,3 +21,6 @@ pub mod TickHeldBack
 pub mod Lending
 pub mod Asking
 pub mod Rest
+pub mod Answering
+pub mod Narrowing
+pub mod Stepping
