@@ -15,6 +15,7 @@ use Rattle.state.specs.declared.Task.{Task}
 use Rattle.state.specs.declared.State.{State}
 use Rattle.state.specs.State.{idleTask, taskAt}
 use Rattle.state.specs.Update.{withTask, withUsed, waitingFor, givingBack}
+use Rattle.state.specs.Lent.{columns}
 use Rattle.state.proofs.Update.{taskAt-past}
 use Rattle.choice.specs.declared.Choice.{Choice}
 use Rattle.choice.specs.Choice.{runs, running}
@@ -27,6 +28,7 @@ use Rattle.step.specs.Events.{answered, released, lengthFitsBudget, with
 use Rattle.step.specs.Step.{done, stepped}
 use Rattle.step.specs.Lent.{rowsOf, RowsOf, Lent, Asked, Chooses}
 use Rattle.step.proofs.Stepped.{stepped-legal, stepped-sized}
+use Rattle.step.proofs.Lending.{fits-lent}
 
 -- what the columns lent say, they say of the plan
 
@@ -38,6 +40,11 @@ module _ (p : Plan) (rows : Rows) (lengths : List ℕ) (R : RowsOf p rows length
   -- what the code found of a resource
   pub global-is : (r : ℕ) (b v : Bool) → b ≡ isGlobal (lent 0 0 0 [] [] [] (rows .kinds) []) r → b ≡ v → isGlobal p r ≡ v
   global-is r b v e f = sym (global-lent r) ∙ sym e ∙ f
+
+  -- and of the length at it
+  pub fits-is : (s : State) (k r : ℕ) (b v : Bool)
+      → b ≡ lengthFitsBudget (lent 0 0 0 [] [] (rows .owners) [] lengths) (columns (s .left) [] [] [] [] [] []) k r → b ≡ v → lengthFitsBudget p s k r ≡ v
+  fits-is s k r b v e f = sym (fits-lent p rows lengths R s k r) ∙ sym e ∙ f
 
   -- what a refusal is asked of
   pub rows-asked : (s : State) (k row : ℕ) (t : Task) → row ≡ running p s → t ≡ taskAt s k → Asked p s (rows .tasks) (rows .resources) (rows .kinds) lengths row t k

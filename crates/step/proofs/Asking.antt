@@ -1,6 +1,6 @@
 -- "Events": what each test of a refusal says, where it is made on the columns that are lent, is what the definition says.
 use mathlib.Core.Path.{_≡_, sym}
-use mathlib.Core.Bool.{Bool, false, not, _||_}
+use mathlib.Core.Bool.{false, not, _||_}
 use mathlib.Core.List.{List, []}
 use Prim.Native.Nat.{ℕ, _-_, _≤_}
 use native.Mathlib.Omega.{arith}
