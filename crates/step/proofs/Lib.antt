@@ -19,3 +19,7 @@ pub mod Lowers
 pub mod HeldBack
 pub mod TickHeldBack
 pub mod Lending
+pub mod Parts
+pub mod Refills
+pub mod Settling
+pub mod WholeTick
