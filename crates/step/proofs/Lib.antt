@@ -24,3 +24,7 @@ pub mod Rest
 pub mod Answering
 pub mod Narrowing
 pub mod Stepping
+pub mod Parts
+pub mod Refills
+pub mod Settling
+pub mod WholeTick

@@ -55,15 +55,18 @@ fn is_spent(rows: Rows, lengths: &[u16], s: State, k: u8) -> bool
     q.0 == 0
 }
 
-// A set of tasks with one more.
+// A set of tasks with one more. A task that is in it already would not fit, and the set stays.
 fn with_ended(ended: u32, k: u8) -> u32
     ensures { λ r. ⌜ (k < 32 → ended + 2 ^ k < 2 ^ 32 → r ≡ ended + 2 ^ k) ⌝ }
 {
     if 32 <= k {
         return ended;
     }
-    let bit = 1u64 << (k as u64);
-    ((ended as u64) + bit) as u32
+    let sum = (ended as u64) + (1u64 << (k as u64));
+    if 4294967295 < sum {
+        return ended;
+    }
+    sum as u32
 }
 
 // (a) Task k is ended, all it holds is freed and used is set to 0.
