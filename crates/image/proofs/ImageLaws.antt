@@ -35,10 +35,10 @@ module _ (s : State) where
   abbrev taskRows : List ℕ
   taskRows = joined (listed mostTasks (λ k. taskBytes (taskAt s k)))
 
-  subsystems-long : length subsystemRows ≡ 64
+  pub subsystems-long : length subsystemRows ≡ 64
   subsystems-long = length-rows (subsystemBytes s) subsystem-eight 8
 
-  tasks-long : length taskRows ≡ 256
+  pub tasks-long : length taskRows ≡ 256
   tasks-long = length-rows (λ k. taskBytes (taskAt s k)) task-eight 32
 
   -- an image has its 320 bytes, whatever the state

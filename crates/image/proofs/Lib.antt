@@ -4,5 +4,7 @@ pub mod BlockLaws
 pub mod Written
 pub mod Rows
 pub mod ImageLaws
+pub mod RowsWritten
 pub mod ImageReads
 pub mod ImageExactly
+pub mod OpenedLaws
