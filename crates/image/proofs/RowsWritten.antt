@@ -36,13 +36,20 @@ pub eight-stored : (d : List ℕ) (at a b c e f g h i : ℕ) → at + 8 ≤ leng
     ≡ paste d at (a ∷ b ∷ c ∷ e ∷ f ∷ g ∷ h ∷ i ∷ []) 8
 eight-stored d at a b c e f g h i room =
     ap (λ (n : ℕ). set (set (set (set (set (set (set (set d n a) (at + 1) b) (at + 2) c) (at + 3) e) (at + 4) f) (at + 5) g) (at + 6) h) (at + 7) i) (sym (add-zero at))
-    ∙ next _ 7 i (next _ 6 h (next _ 5 g (next _ 4 f (next _ 3 e (next _ 2 c (next _ 1 b (next d 0 a (paste-zero d at s) (omega arith) (omega arith) refl) (omega arith) (omega arith) refl) (omega arith) (omega arith) refl) (omega arith) (omega arith) refl) (omega arith) (omega arith) refl) (omega arith) (omega arith) refl) (omega arith) (omega arith) refl) (omega arith) (omega arith) refl
+    ∙ next _ 7 i (omega arith) refl
+    (next _ 6 h (omega arith) refl
+    (next _ 5 g (omega arith) refl
+    (next _ 4 f (omega arith) refl
+    (next _ 3 e (omega arith) refl
+    (next _ 2 c (omega arith) refl
+    (next _ 1 b (omega arith) refl
+    (next d 0 a (omega arith) refl (paste-zero d at s))))))))
   where
     s : List ℕ
     s = a ∷ b ∷ c ∷ e ∷ f ∷ g ∷ h ∷ i ∷ []
 
-    next : (l : List ℕ) (j v : ℕ) → l ≡ paste d at s j → at + j < length d → j < length s → getD s j 0 ≡ v → set l (at + j) v ≡ paste d at s (j + 1)
-    next = byte-next d at s
+    next : (l : List ℕ) (j v : ℕ) → j < 8 → getD s j 0 ≡ v → l ≡ paste d at s j → set l (at + j) v ≡ paste d at s (j + 1)
+    next l j v h q e = byte-next d at s l j v e (omega arith) h q
 
 -- three words and a 0
 pub counts-stored : (d : List ℕ) (at x y z : ℕ) (l₁ l₂ l₃ l₄ : List ℕ) → at + 8 ≤ length d
@@ -53,20 +60,18 @@ pub counts-stored : (d : List ℕ) (at x y z : ℕ) (l₁ l₂ l₃ l₄ : List 
     → l₄ ≡ paste d at (word x ++ (word y ++ (word z ++ word 0))) 8
 unfolding word
 counts-stored d at x y z l₁ l₂ l₃ l₄ room e₁ e₂ e₃ e₄ =
-    next l₃ l₄ 6 0
-    (next l₂ l₃ 4 z
-    (next l₁ l₂ 2 y
-    (next d l₁ 0 x (paste-zero d at s) (e₁ ∙ ap (λ (n : ℕ). set (set d n (x % 256)) (n + 1) (x / 256)) (sym (add-zero at))) (omega arith) (omega arith) (record { low = refl; high = refl }))
-    e₂ (omega arith) (omega arith) (record { low = refl; high = refl }))
-    e₃ (omega arith) (omega arith) (record { low = refl; high = refl }))
-    e₄ (omega arith) (omega arith) (record { low = refl; high = refl })
+    next l₃ l₄ 6 0 (omega arith) (record { low = refl; high = refl }) e₄
+    (next l₂ l₃ 4 z (omega arith) (record { low = refl; high = refl }) e₃
+    (next l₁ l₂ 2 y (omega arith) (record { low = refl; high = refl }) e₂
+    (next d l₁ 0 x (omega arith) (record { low = refl; high = refl }) (e₁ ∙ ap (λ (n : ℕ). set (set d n (x % 256)) (n + 1) (x / 256)) (sym (add-zero at)))
+    (paste-zero d at s))))
   where
     s : List ℕ
     s = word x ++ (word y ++ (word z ++ word 0))
 
-    next : (l m : List ℕ) (j w : ℕ) → l ≡ paste d at s j → m ≡ set (set l (at + j) (w % 256)) (at + j + 1) (w / 256)
-        → at + j + 1 < length d → j + 1 < length s → HasWord s j w → m ≡ paste d at s (j + 2)
-    next = word-next d at s
+    next : (l m : List ℕ) (j w : ℕ) → j + 1 < 8 → HasWord s j w → m ≡ set (set l (at + j) (w % 256)) (at + j + 1) (w / 256) → l ≡ paste d at s j
+        → m ≡ paste d at s (j + 2)
+    next l m j w h has q e = word-next d at s l m j w e q (omega arith) h has
 
 -- the eight bytes of a task
 pub task-stored : (d : List ℕ) (at : ℕ) (t : Task) → length (t .held) ≡ mostHeld → at + 8 ≤ length d

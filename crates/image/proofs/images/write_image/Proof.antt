@@ -1,6 +1,6 @@
 -- Rows of subsystems, and behind them rows of tasks.
 use denote.Ref.{now}
-use mathlib.Core.Path.{_≡_, sym}
+use mathlib.Core.Path.{sym}
 use borrow.Author.Tests.{eq-eqb, ne-eqb}
 use Rattle.state.specs.State.{taskAt, leftOf, refillOf, usedOf}
 use Rattle.image.specs.Image.{subsystemBytes}

@@ -1,8 +1,4 @@
 -- The plan of no line and a blank state.
-use mathlib.Core.Path.{_≡_, ap₂}
-use Rattle.plan.specs.declared.Plan.{Plan}
-use Rattle.state.specs.declared.State.{State}
-use Rattle.image.specs.declared.Opened.{Opened}
 use Rattle.image.specs.BlockCalls.{blockRefused}
 use Rattle.image.specs.Opening.{openedRefused}
 use borrow.Author.Needs.{needs}

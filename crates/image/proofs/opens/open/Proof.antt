@@ -1,7 +1,7 @@
 -- Lengths, the block, the bytes that are always 0, and the state are tested in this order. Each end is one of the definition's.
 use denote.Ref.{now}
 use mathlib.Core.Path.{_≡_, sym, _∙_}
-use mathlib.Core.Bool.{true, false}
+use mathlib.Core.Bool.{true}
 use mathlib.Core.List.{List}
 use Prim.Native.Nat.{ℕ, _<_}
 use lib.ListN.{length, getD}
@@ -10,7 +10,6 @@ use borrow.Author.Tests.{not-true, not-false}
 use Rattle.state.specs.Legal.{legal}
 use Rattle.image.specs.Block.{blockBytes, planOf, isBlock}
 use Rattle.image.specs.Image.{imageBytes, stateOf}
-use Rattle.image.specs.Pads.{padsZero}
 use Rattle.image.proofs.OpenedLaws.{read-is, refused-block, read-block-is, legal-read, not-padded, not-legal, image-passes, short-block, short-image, no-block, no-image, both-opened}
 use borrow.Author.Needs.{needs}
 use Rattle.image.proofs.opens.open.Statement.{statement}

@@ -1,9 +1,7 @@
 -- Both kinds of rows.
-use mathlib.Core.Path.{sym, ap, _∙_}
-use mathlib.Core.Bool.{Bool, _&&_}
+use mathlib.Core.Path.{sym, _∙_}
 use borrow.Author.Tests.{not-true, not-false}
-use Rattle.below.specs.Below.{all}
-use Rattle.image.specs.Pads.{taskPad, padsZero}
+use Rattle.image.specs.Pads.{padsZero}
 use borrow.Author.Needs.{needs}
 use Rattle.image.proofs.opens.pads_clear.Statement.{statement}
 use Rattle.image.proofs.opens.pads_clear.Tie as tie
