@@ -21,7 +21,7 @@ use Rattle.promise.proofs.Scheduler.{fresh-kept}
 use Rattle.promise.proofs.Budgets.{budgets-exact}
 use Rattle.promise.proofs.Answers.{never}
 use Rattle.promise.proofs.Lent.{Lent, read-lent}
-use Rattle.promise.proofs.Calls.{ImageLaws, fresh-given, calls-given}
+use Rattle.promise.proofs.Calls.{fresh-given, calls-given}
 
 -- the calls of a run name and answer what its outcomes do
 
@@ -33,7 +33,7 @@ never-given : (p : Plan) (es : List Event) (n : ℕ) → 11 < n → count n (map
 unfolding stepGives
 never-given p es n h = rw (map-map (λ (c : StepCall). c .number) stepGives (outcomes (stepped p) (fresh p) es)) (never p n h (fresh p) es)
 
-module _ (I : ImageLaws) (p : Plan) (b : List ℕ) (L : Lent p b) where
+module _ (p : Plan) (b : List ℕ) (L : Lent p b) where
   -- the outcomes, as calls, keep demand 3
   outcomes-exact : (es : List Event) → CallsExact p es (map stepGives (outcomes (stepped p) (fresh p) es))
   outcomes-exact es = record {
@@ -46,14 +46,14 @@ module _ (I : ImageLaws) (p : Plan) (b : List ℕ) (L : Lent p b) where
   -- and the calls on a fresh image are those
   host-exact : (image : List ℕ) → length image ≡ imageBytes → HostExact p b image
   host-exact image h =
-      let f = fresh-given I p b L image h in
+      let f = fresh-given p b L image h in
       record {
         starts = ap (λ c. c .number) f;
         runs = λ x y z es.
-            rw (calls-given I p b L (fresh p) (fresh-kept p (accepted-facts p (L .accepts))) (stepLeft 0 (freshCall b image .image) x y z) (ap (λ c. c .image) f) es)
+            rw (calls-given p b L (fresh p) (fresh-kept p (accepted-facts p (L .accepts))) (stepLeft 0 (freshCall b image .image) x y z) (ap (λ c. c .image) f) es)
             (outcomes-exact es);
       }
 
 -- demand 3 in C
-pub budgets-exact-in-c : ImageLaws → BudgetsExactInC
-budgets-exact-in-c I text buffer beside z image h = host-exact I (reading text .plan) (readCall text buffer beside .block) (read-lent text buffer beside z) image h
+pub budgets-exact-in-c : BudgetsExactInC
+budgets-exact-in-c text buffer beside z image h = host-exact (reading text .plan) (readCall text buffer beside .block) (read-lent text buffer beside z) image h

@@ -1,23 +1,21 @@
 -- "Calls from C": on a block that writes an accepted plan and the image of a legal state, the calls give what the rules say, and leave such an image.
 use mathlib.Core.Path.{_≡_, refl, ap}
-use mathlib.Core.Bool.{true}
 use mathlib.Core.List.{List, [], _∷_, map}
 use Prim.Native.Nat.{ℕ}
 use lib.ListN.{length}
 use borrow.Author.Tests.{eq-eqb}
 use Rattle.plan.specs.declared.Plan.{Plan}
-use Rattle.plan.specs.Accepted.{accepted}
 use Rattle.plan.proofs.Facts.{accepted-facts}
 use Rattle.state.specs.declared.State.{State}
 use Rattle.state.specs.Fresh.{fresh}
-use Rattle.state.specs.Sized.{Sized}
-use Rattle.state.specs.Legal.{legal}
 use Rattle.state.proofs.Facts.{facts-legal}
 use Rattle.step.specs.Step.{stepped}
 use Rattle.step.proofs.Kept.{Kept}
 use Rattle.step.proofs.Stepped.{stepped-kept}
-use Rattle.image.specs.Image.{imageBytes, imageOf, stateOf, isImage}
+use Rattle.image.specs.Image.{imageBytes, imageOf}
 use Rattle.image.specs.Opening.{bothLong, openedNumber}
+use Rattle.image.proofs.ImageLaws.{image-length, image-back}
+use Rattle.image.proofs.ImageExactly.{image-is}
 use Rattle.host.specs.Fresh.{freshLeft, freshCall}
 use Rattle.host.specs.Step.{StepCall, stepGives, stepCall}
 use Rattle.promise.specs.Budgets.{Event, outcomes}
@@ -25,14 +23,7 @@ use Rattle.promise.specs.BudgetsInC.{stepCalls}
 use Rattle.promise.proofs.Scheduler.{given}
 use Rattle.promise.proofs.Lent.{Lent}
 
--- what crate `image` shows of the image of a legal state. TO BE FILLED IN: with image-back, image-is and image-length of crates/image/proofs a
--- value of this record, in the place of the argument I of everything below and of budgets-exact-in-c
-pub record ImageLaws : Type 0 where
-  pub back : (p : Plan) (s : State) → accepted p ≡ true → Sized s → legal p s ≡ true → stateOf (imageOf s) ≡ s
-  pub is : (p : Plan) (s : State) → accepted p ≡ true → Sized s → legal p s ≡ true → isImage p (imageOf s) ≡ true
-  pub long : (p : Plan) (s : State) → accepted p ≡ true → Sized s → legal p s ≡ true → length (imageOf s) ≡ imageBytes
-
-module _ (I : ImageLaws) (p : Plan) (b : List ℕ) (L : Lent p b) where
+module _ (p : Plan) (b : List ℕ) (L : Lent p b) where
   -- a fresh image is made in any buffer of its length
   pub fresh-given : (image : List ℕ) → length image ≡ imageBytes → freshCall b image ≡ freshLeft 0 (imageOf (fresh p))
   unfolding freshCall bothLong
@@ -43,13 +34,12 @@ module _ (I : ImageLaws) (p : Plan) (b : List ℕ) (L : Lent p b) where
     opens : openedNumber b (imageOf s) ≡ 0
     unfolding openedNumber bothLong
     opens =
-        let l = facts-legal p s (S .legal) in
         rw (
           eq-eqb _ _ (L .long),
-          eq-eqb _ _ (I .long p s (L .accepts) (S .sized) l),
+          eq-eqb _ _ (image-length s),
           L .block,
           L .plan,
-          I .is p s (L .accepts) (S .sized) l,
+          image-is p s (S .sized) (facts-legal p s (S .legal)),
           openedNumber,
           bothLong,
         )
@@ -57,7 +47,7 @@ module _ (I : ImageLaws) (p : Plan) (b : List ℕ) (L : Lent p b) where
     -- a step gives the event's outcome
     step-given : (kind k r x y z : ℕ) → stepCall b (imageOf s) kind k r x y z ≡ stepGives (stepped p s kind k r)
     unfolding stepCall
-    step-given kind k r x y z = rw (opens, L .plan, I .back p s (L .accepts) (S .sized) (facts-legal p s (S .legal)), stepCall)
+    step-given kind k r x y z = rw (opens, L .plan, image-back s (S .sized), stepCall)
 
   -- so do the steps of a run
   calls-next : (s : State) (e : Event) (es : List Event) (c : StepCall) → c ≡ stepGives (given p s e)
