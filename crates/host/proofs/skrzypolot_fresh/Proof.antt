@@ -22,7 +22,7 @@ cast-result c = search needs
 returns-2 : tie.Need-returns-2
 returns-2 c =
     let r = c .before .before .before in
-    block-refused _ _ (omega (arith, r .before .if1 .left)) _ (r .read-block .ensures) (c .before .if2 .taken)
+    block-refused _ _ (omega (arith, r .before .if1 .left)) _ (r .read-block .ensures) (λ z. c .before .if2 .taken (omega arith))
 
 fresh-requires : tie.Need-fresh-requires
 fresh-requires c κs = search needs
@@ -41,7 +41,7 @@ returns-3 c =
     let r = e .before .before in
     let full : length (now (r .before .before .before .before .args .image)) ≡ imageBytes = omega (arith, r .before .if1 .left) in
     ap (freshLeft 0) (w .write-image .ensures .1 ∙ image-filled _ _ full ∙ ap imageOf (f .fresh .ensures))
-    ∙ block-taken _ _ full _ (r .read-block .ensures) (e .if2 .left)
+    ∙ block-taken _ _ full _ (r .read-block .ensures) (omega (arith, e .if2 .left))
 
 pub skrzypolot-fresh-spec : {M : Type 1} → statement M
 skrzypolot-fresh-spec =
