@@ -2,6 +2,7 @@
 ghost use mathlib.Core.Path.{_≡_};
 ghost use Rattle.host.specs.Read.{readLeft, readCall};
 ghost use Rattle.host.specs.Margin.{marginLeft, marginCall};
+ghost use Rattle.host.specs.Fresh.{freshLeft, freshCall};
 
 // A plan text to its block. 34 where the block has another length than 1,108 bytes; otherwise 0 and the block, or the refusal with the
 // block as it was. The number beside is part of the answer, and kept only with 34.
@@ -32,4 +33,22 @@ pub extern "C" fn skrzypolot_margin(text: &[u8], row: u32, margin: &mut i64) -> 
     let a = reader::ask(text, row);
     *margin = reader::numbers::asked_value(a);
     reader::numbers::asked_number(a)
+}
+
+// The image of the state that a run of the block's plan starts in. 34 where a buffer has the wrong length, 31 where no accepted plan has the
+// block; both keep the image.
+#[no_mangle]
+pub extern "C" fn skrzypolot_fresh(block: &[u8], image: &mut [u8]) -> u32
+    ensures { λ r. ⌜ freshLeft r (now (image .exit)) ≡ freshCall (now (block .entry)) (now (image .entry)) ⌝ }
+{
+    if image.len() != 320 {
+        return 34;
+    }
+    let b = image::read_block(block);
+    if b.number != 0 {
+        return b.number as u32;
+    }
+    let plan = b.plan;
+    image::write_image(state::beginning::fresh(plan), image);
+    0
 }

@@ -1,9 +1,11 @@
 -- Rows of subsystems, and behind them rows of tasks.
 use denote.Ref.{now}
-use mathlib.Core.Path.{sym}
+use mathlib.Core.Path.{_≡_, sym}
+use native.Mathlib.Omega.{arith}
+use lib.ListN.{length}
 use borrow.Author.Tests.{eq-eqb, ne-eqb}
 use Rattle.state.specs.State.{taskAt, leftOf, refillOf, usedOf}
-use Rattle.image.specs.Image.{subsystemBytes}
+use Rattle.image.specs.Image.{imageBytes, subsystemBytes}
 use Rattle.image.specs.Opening.{imageWritten}
 use Rattle.image.proofs.RowsWritten.{image-written}
 use borrow.Author.Needs.{needs}
@@ -13,7 +15,7 @@ use Rattle.image.proofs.images.write_image.Tie as tie
 returns : tie.Need-returns
 unfolding imageWritten
 returns c =
-    let e = ne-eqb _ _ (c .if1 .taken) in
+    let e = ne-eqb (length (now (c .before .before .args .image))) imageBytes (λ h. c .if1 .taken (omega arith)) in
     (sym e, rw e)
 
 write-counts-requires : tie.Need-write-counts-requires
@@ -32,8 +34,9 @@ returns-2 c =
     let counts = tasks .before .before .before .before .before .before .before .before .before in
     let else = counts .before .before .before .before .before .before .before .before in
     let c0 = else .before .before in
-    let t = eq-eqb _ _ (else .if1 .left) in
-    (sym t, rw t (image-written (c0 .args .t1) (now (c0 .args .image)) _ _ (else .if1 .left) (counts .write-counts .ensures) (tasks .write-tasks .ensures)))
+    let long : length (now (c0 .args .image)) ≡ imageBytes = omega (arith, else .if1 .left) in
+    let t = eq-eqb _ _ long in
+    (sym t, rw t (image-written (c0 .args .t1) (now (c0 .args .image)) _ _ long (counts .write-counts .ensures) (tasks .write-tasks .ensures)))
 
 pub write-image-spec : {M : Type 1} → statement M
 write-image-spec =

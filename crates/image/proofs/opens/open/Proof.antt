@@ -24,10 +24,10 @@ abbrev image : tie.After-read-block → List ℕ
 image c = now (c .before .before .before .before .before .args .image)
 
 long : (c : tie.After-read-block) → length (block c) ≡ blockBytes
-long c = c .before .before .if1 .left
+long c = omega (arith, c .before .before .if1 .left)
 
 full : (c : tie.After-read-block) → length (image c) ≡ imageBytes
-full c = c .before .if2 .left
+full c = omega (arith, c .before .if2 .left)
 
 small : (c : tie.After-read-block) (k : ℕ) → getD (image c) k 0 < 256
 small c k = omega (arith, c .before .before .before .shared-slice-known2 .given k)
@@ -57,13 +57,13 @@ nothing-requires : tie.Need-nothing-requires
 nothing-requires c κs = search needs
 
 returns : tie.Need-returns
-returns c = c .nothing .ensures ∙ short-block _ _ (c .before .if1 .taken)
+returns c = c .nothing .ensures ∙ short-block _ _ (λ h. c .before .if1 .taken (omega arith))
 
 nothing-requires-2 : tie.Need-nothing-requires-2
 nothing-requires-2 c κs = search needs
 
 returns-2 : tie.Need-returns-2
-returns-2 c = c .nothing2 .ensures ∙ short-image _ _ (c .before .before .if1 .left) (c .before .if2 .taken)
+returns-2 c = c .nothing2 .ensures ∙ short-image _ _ (omega (arith, c .before .before .if1 .left)) (λ h. c .before .if2 .taken (omega arith))
 
 read-block-requires : tie.Need-read-block-requires
 read-block-requires c κs = search needs

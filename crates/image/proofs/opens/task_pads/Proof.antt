@@ -1,4 +1,5 @@
 -- The loop's invariant: every task passed ends with 0.
+use denote.Ref.{now}
 use native.Mathlib.Omega.{arith}
 use borrow.Author.Needs.{needs}
 use mathlib.Core.Path.{_≡_}
@@ -36,7 +37,9 @@ shared-slice-read-if1 c = omega arith
 
 returns : tie.Need-returns Inv-loop μ-loop
 unfolding taskPad byteAt taskByteAt
-returns c = all-left _ _ _ (c .before .before .loop-test .taken) (ne-eqb _ _ (c .if1 .taken))
+returns c =
+    let l = c .before .before .before in
+    all-left _ _ _ (c .before .before .loop-test .taken) (ne-eqb (byteAt (now (l .before .args .b)) (taskByteAt (l .loop .k) 7)) 0 (λ e. omega (arith, c .if1 .taken)))
 
 add-k : tie.Need-add-k Inv-loop μ-loop
 add-k c = omega arith
@@ -46,7 +49,9 @@ loop-less c = omega arith
 
 loop-again : tie.Need-loop-again Inv-loop μ-loop
 unfolding taskPad byteAt taskByteAt
-loop-again c = (omega arith, below-more _ _ (c .before .before .before .loop .inv .1) (eq-eqb _ _ (c .if1 .left)))
+loop-again c =
+    let l = c .before .before .before in
+    (omega arith, below-more _ _ (l .loop .inv .1) (eq-eqb (byteAt (now (l .before .args .b)) (taskByteAt (l .loop .k) 7)) 0 (omega (arith, c .if1 .left))))
 
 returns-2 : tie.Need-returns-2 Inv-loop μ-loop
 returns-2 c = all-ended _ _ _ (c .loop-test .left) (c .before .loop .inv .1)
