@@ -23,3 +23,8 @@ pub mod Parts
 pub mod Refills
 pub mod Settling
 pub mod WholeTick
+pub mod Asking
+pub mod Rest
+pub mod Answering
+pub mod Narrowing
+pub mod Stepping
