@@ -64,7 +64,7 @@ module _ (p : Plan) (s : State) (k : ℕ) where
         cc (ran-inside p s k h (section-before ∙ i))
 
 -- (a) one turn
-pub shut-is : (p : Plan) (x : Shut) (k : ℕ) (freed u : State) (c e : ℕ) → u ≡ endedTask (x .state) k → c ≡ owner p k → freed ≡ withUsed u c 0
+pub shut-is : (p : Plan) (x : Shut) (k : ℕ) (freed u : State) (c n e : ℕ) → u ≡ endedTask (x .state) k → c ≡ owner p k → n ≡ 0 → freed ≡ withUsed u c n
     → e ≡ x .ended + 2 ^ k → record { state = freed; ended = e } ≡ shutOne p x k
 unfolding shutOne
-shut-is p x k freed u c e a o f g = rw (f, a, o, g)
+shut-is p x k freed u c n e a o z f g = rw (f, a, o, z, g)
