@@ -1,1 +1,3 @@
 pub mod ReadLaws
+pub mod OpenLaws
+pub mod StepLaws
