@@ -1,2 +1,4 @@
 pub mod ReadLaws
 pub mod FreshLaws
+pub mod OpenLaws
+pub mod StepLaws

@@ -3,6 +3,9 @@ ghost use mathlib.Core.Path.{_≡_};
 ghost use Rattle.host.specs.Read.{readLeft, readCall};
 ghost use Rattle.host.specs.Margin.{marginLeft, marginCall};
 ghost use Rattle.host.specs.Fresh.{freshLeft, freshCall};
+ghost use Rattle.host.specs.Step.{stepLeft, stepCall};
+use step::event::stepped;
+use step::rows_with;
 
 // A plan text to its block. 34 where the block has another length than 1,108 bytes; otherwise 0 and the block, or the refusal with the
 // block as it was. The number beside is part of the answer, and kept only with 34.
@@ -51,4 +54,36 @@ pub extern "C" fn skrzypolot_fresh(block: &[u8], image: &mut [u8]) -> u32
     let plan = b.plan;
     image::write_image(state::beginning::fresh(plan), image);
     0
+}
+
+// An event on the state that the image writes. 34, 31 and 32 keep everything, the numbers behind pointers too; any answer of the event
+// fills all of them, a refusal with the image as it was.
+#[no_mangle]
+pub extern "C" fn skrzypolot_step(
+    block: &[u8],
+    image: &mut [u8],
+    kind: u32,
+    task: u32,
+    resource: u32,
+    subsystem: &mut u32,
+    running: &mut u32,
+    ended: &mut u32,
+) -> u32
+    ensures { λ r. ⌜ stepLeft r (now (image .exit)) (now (subsystem .exit)) (now (running .exit)) (now (ended .exit))
+        ≡ stepCall (now (block .entry)) (now (image .entry)) kind task resource (now (subsystem .entry)) (now (running .entry)) (now (ended .entry)) ⌝ }
+{
+    let x = image::open(block, image);
+    if x.number != 0 {
+        return x.number as u32;
+    }
+    let p = x.plan;
+    let s = x.state;
+    let ceilings = x.ceilings;
+    let o = stepped(rows_with(p, ceilings), &p.lengths, s, kind, task, resource);
+    let next = o.state;
+    image::write_image(next, image);
+    *subsystem = o.subsystem as u32;
+    *running = o.task as u32;
+    *ended = o.ended;
+    o.answer as u32
 }
