@@ -1,0 +1,2 @@
+pub mod AsFarLaws
+pub mod RowsLaws

@@ -1,0 +1,35 @@
+-- `run::report::report_row` meets its contract: the numbers asked for are those of the row's line.
+use mathlib.Core.Path.{_≡_, _∙_}
+use borrow.Author.Needs.{needs}
+use mir.Facts.{toZ-ofZ}
+use mir.Syntax.{w64}
+use Rattle.line.specs.Report.{reportLine}
+use Rattle.line.specs.Reported.{reportText}
+use Rattle.run.proofs.RowsLaws.{row-text}
+use Rattle.run.proofs.report.report_row.Statement.{statement}
+use Rattle.run.proofs.report.report_row.Tie as tie
+
+returns : tie.Need-returns
+returns c =
+    let l = c .before .before in
+    let m = l .before .before in
+    let d = m .before in
+    let b = d .before in
+    let v = b .before in
+    let u = v .before .before .before .before in
+    let a = u .before .before .before .before .before .args in
+    let x = row-text (a .t1) (a .s) (u .word-at .ensures) (v .word-at2 .ensures) (b .blocking .ensures) (d .demand .ensures) (toZ-ofZ {w = w64} {z = m .margin .result} (record { sfits = m .margin .ok }) ∙ m .margin .ensures) in
+    rw x at (l .report-line .ensures)
+
+pub report-row-spec : {M : Type 1} → statement M
+report-row-spec =
+    tie.close
+    (tie.spec
+    (λ c κs. search needs)
+    (λ c κs. search needs)
+    (λ c κs. search needs)
+    (λ c κs. search needs)
+    (λ c κs. search needs)
+    (λ c κs. search needs)
+    (λ c. search needs)
+    returns)
