@@ -1,6 +1,6 @@
 -- "The run program": lines written one behind the other, as far as the buffer goes.
 use mathlib.Core.Bool.{Bool, true, false}
-use mathlib.Core.List.{List, [], _∷_}
+use mathlib.Core.List.{List, [], _∷_, _++_}
 use Prim.Native.Nat.{ℕ, _+_}
 use lib.ListN.{length}
 use Rattle.line.specs.Filled.{hasRoom, outAfter}
@@ -16,3 +16,8 @@ asFar (l ∷ ls) out fill =
 unfoldable pub asFarOut : List (List ℕ) → List ℕ → ℕ → List ℕ
 asFarOut [] out fill = out
 asFarOut (l ∷ ls) out fill = elim (hasRoom out fill l) [ true ↦ asFarOut ls (outAfter out fill l) (fill + length l) | false ↦ out ]
+
+-- lines as one text
+unfoldable pub inOne : List (List ℕ) → List ℕ
+inOne [] = []
+inOne (l ∷ ls) = l ++ inOne ls
