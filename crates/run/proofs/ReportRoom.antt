@@ -13,7 +13,7 @@ use Rattle.reader.specs.Numbers.{number, beside}
 use Rattle.reader.specs.Reading.{reading}
 use Rattle.reader.specs.Margin.{hasMargins}
 use Rattle.line.specs.Printed.{printedRefusal}
-use Rattle.line.specs.Report.{reportLine, report}
+use Rattle.line.specs.Report.{report}
 use Rattle.run.specs.declared.Ran.{Ran}
 use Rattle.run.specs.AsFar.{asFar, asFarOut, inOne}
 use Rattle.run.specs.Reporting.{reportFrom, reportOf, reportedLines}

@@ -1,17 +1,15 @@
 -- A line of a report has at most 128 bytes.
-use mathlib.Core.Path.{_≡_, refl}
+use mathlib.Core.Path.{_≡_}
 use mathlib.Core.Bool.{Bool, true, false, cond, _&&_}
 use mathlib.Core.List.{List, [], _∷_}
 use Prim.Native.Nat.{ℕ, _+_, _*_, _^_, _≤_, _<_}
 use native.Mathlib.Nat.{div-le-self, lt-of-le-of-lt}
 use native.Mathlib.Omega.{arith}
 use lib.Dec.{ltb, leb}
-use lib.IntN.{pos, _-ℤ_}
 use lib.ListN.{length, length-append}
 use mir.Syntax.{w64}
 use mir.Val.{SFits}
 use mir.Facts.{toZ-pos}
-use Rattle.below.specs.Below.{sum}
 use Rattle.below.specs.Quotient.{roundedUp}
 use Rattle.below.proofs.Amounts.{sum-bounded, greatest-most}
 use Rattle.text.specs.Bytes.{bytes}

@@ -1,5 +1,5 @@
 -- `run::report::report` meets its contract: what the reading says decides which lines are written.
-use mathlib.Core.Path.{_≡_, sym, _∙_}
+use mathlib.Core.Path.{sym, _∙_}
 use borrow.Author.Tests.{not-true, not-false}
 use borrow.Author.Needs.{needs}
 use Rattle.reader.specs.Margin.{hasMargins}

@@ -1,10 +1,8 @@
 -- `run::report::report_row` meets its contract: the numbers asked for are those of the row's line.
-use mathlib.Core.Path.{_≡_, _∙_}
+use mathlib.Core.Path.{_∙_}
 use borrow.Author.Needs.{needs}
 use mir.Facts.{toZ-ofZ}
 use mir.Syntax.{w64}
-use Rattle.line.specs.Report.{reportLine}
-use Rattle.line.specs.Reported.{reportText}
 use Rattle.run.proofs.RowsLaws.{row-text}
 use Rattle.run.proofs.report.report_row.Statement.{statement}
 use Rattle.run.proofs.report.report_row.Tie as tie
