@@ -13,6 +13,8 @@ use Rattle.reader.specs.declared.Reading.{Reading}
 use Rattle.reader.specs.Numbers.{number, beside}
 use Rattle.reader.specs.Reading.{reading}
 use Rattle.reader.specs.Margin.{hasMargins}
+use Rattle.line.specs.declared.Filled.{Filled}
+use Rattle.line.specs.Filled.{fillAfter, outAfter}
 use Rattle.line.specs.Printed.{printedRefusal}
 use Rattle.line.specs.Report.{reportLine}
 use Rattle.line.specs.Reported.{reportText}
@@ -38,14 +40,23 @@ module _ (p : Plan) (s : ℕ) {out : List ℕ} {at : ℕ} {all : List (List ℕ)
   pub leads-none : p .subsystems ≤ s → Leads (reportFrom p (p .subsystems - s) s) out at all out₀ fill → Leads [] out at all out₀ fill
   leads-none h w = rw (rows-none p (p .subsystems) s h) at w
 
-pub leads-rows : (p : Plan) (out : List ℕ) (fill : ℕ) → Leads (reportFrom p (p .subsystems - 0) 0) out fill (reportFrom p (p .subsystems) 0) out fill
-leads-rows p out fill = let e : p .subsystems - 0 ≡ p .subsystems = omega arith in rw e (leads-start _ out fill)
+pub leads-rows : (p : Plan) (s : ℕ) (out : List ℕ) (fill : ℕ) → s ≡ 0
+    → Leads (reportFrom p (p .subsystems - s) s) out fill (reportFrom p (p .subsystems) 0) out fill
+leads-rows p s out fill z =
+    let e : p .subsystems - 0 ≡ p .subsystems = omega arith in
+    rw (z, e) (leads-start _ out fill)
 
 -- the text of the numbers of a row
-pub row-text : (p : Plan) (s : ℕ) {a b k d : ℕ} {m : ℤ} → a ≡ getD (p .periods) s 0 → b ≡ getD (p .budgets) s 0
+pub row-text : (p : Plan) (s a b k d : ℕ) {m : ℤ} → a ≡ getD (p .periods) s 0 → b ≡ getD (p .budgets) s 0
     → k ≡ blocking p s → d ≡ demand p s → m ≡ margin p s → reportText s a b k d m ≡ reportLine p s
 unfolding period budget
-row-text p s e f g h i = rw (e, f, g, h, i) (sym (reported p s))
+row-text p s a b k d e f g h i = rw (e, f, g, h, i) (sym (reported p s))
+
+-- what writing the line of a refusal answers, by the refusal's numbers
+pub refused-so : (out : List ℕ) (fill n b m k : ℕ) {r : Filled} {new : List ℕ}
+    → (r ≡ fillAfter out fill (printedRefusal n b)) × (new ≡ outAfter out fill (printedRefusal n b)) → n ≡ m → b ≡ k
+    → (r ≡ fillAfter out fill (printedRefusal m k)) × (new ≡ outAfter out fill (printedRefusal m k))
+refused-so out fill n b m k w e f = rw (e, f) at w
 
 -- the lines of a plan that has margins, and of one that has not
 module _ (text : List ℕ) {r : Reading} (e : r ≡ reading text) where

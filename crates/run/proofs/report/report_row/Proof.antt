@@ -1,5 +1,6 @@
 -- `run::report::report_row` meets its contract: the numbers asked for are those of the row's line.
 use mathlib.Core.Path.{_∙_}
+use native.Mathlib.Omega.{arith}
 use borrow.Author.Needs.{needs}
 use mir.Facts.{toZ-ofZ}
 use mir.Syntax.{w64}
@@ -16,7 +17,14 @@ returns c =
     let v = b .before in
     let u = v .before .before .before .before in
     let a = u .before .before .before .before .before .args in
-    let x = row-text (a .t1) (a .s) (u .word-at .ensures) (v .word-at2 .ensures) (b .blocking .ensures) (d .demand .ensures) (toZ-ofZ {w = w64} {z = m .margin .result} (record { sfits = m .margin .ok }) ∙ m .margin .ensures) in
+    let x =
+    row-text (a .t1) (a .s) (u .word-at .result) (v .word-at2 .result) (b .blocking .result) (d .demand .result)
+    (omega (arith, u .word-at .ensures))
+    (omega (arith, v .word-at2 .ensures))
+    (omega (arith, b .blocking .ensures))
+    (omega (arith, d .demand .ensures))
+    (toZ-ofZ {w = w64} {z = m .margin .result} (record { sfits = m .margin .ok }) ∙ m .margin .ensures)
+    in
     rw x at (l .report-line .ensures)
 
 pub report-row-spec : {M : Type 1} → statement M

@@ -17,7 +17,7 @@ abbrev μ-loop : tie.MeasureT-loop
 μ-loop p out₀ fill at₀ s₀ out at s = p .subsystems - s
 
 loop-holds : tie.Need-loop-holds Inv-loop μ-loop
-loop-holds c = (omega arith, leads-rows (c .before .args .p) _ _, refl)
+loop-holds c = (omega arith, leads-rows (c .before .args .p) _ _ _ (omega arith), refl)
 
 returns : tie.Need-returns Inv-loop μ-loop
 returns c =
