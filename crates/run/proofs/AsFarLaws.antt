@@ -51,7 +51,7 @@ pub kept-none : (out : List ℕ) (fill : ℕ) (l : List ℕ) → hasRoom out fil
 unfolding outAfter
 kept-none out fill l t = rw (outAfter, t)
 
--- what is found out of the lines from a buffer and a fill on, and what it is to be
+-- the lines that are left, from the buffer and the fill reached so far, give what all lines give from the start
 pub record Leads (ls : List (List ℕ)) (out : List ℕ) (at : ℕ) (all : List (List ℕ)) (out₀ : List ℕ) (fill : ℕ) : Type 0 where
   pub far : asFar ls out at ≡ asFar all out₀ fill
   pub held : asFarOut ls out at ≡ asFarOut all out₀ fill

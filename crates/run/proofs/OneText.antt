@@ -6,7 +6,8 @@ use Prim.Native.Nat.{ℕ, _+_, _-_, _≤_}
 use native.Mathlib.Omega.{arith}
 use lib.ListN.{length, take, drop, length-append, length-take, length-drop, take-append-drop}
 use lib.Seq.{take-at, drop-at, drop-drop}
-use borrow.Author.Tests.{leb-true, le-leb}
+use lib.Dec.{leb}
+use borrow.Author.Tests.{leb-true, leb-false, le-leb, lt-leb}
 use Rattle.line.specs.Filled.{hasRoom, outAfter}
 use Rattle.line.proofs.Room as room
 use Rattle.run.specs.declared.Ran.{Ran}
@@ -90,6 +91,39 @@ whole-room (l ∷ ls) out fill h t = go (hasRoom out fill l) refl (whole-room ls
         rw length-append (omega arith)
     go false b ih = absurd (false≢true (sym (ap (λ (r : Ran). r .whole) (far-none out fill l ls b)) ∙ t))
 
+-- a fill past the end leaves room for empty lines alone
+module _ (out : List ℕ) (fill : ℕ) (past : length out ≤ fill) where
+  none-after : hasRoom out fill [] ≡ true → outAfter out fill [] ≡ out
+  none-after e =
+      let z : fill + 0 ≡ fill = omega arith in
+      room.out-room out fill [] (omega arith) ∙ rw z (take-append-drop fill out)
+
+  some-not : (x : ℕ) (xs : List ℕ) → hasRoom out fill (x ∷ xs) ≡ false
+  unfolding hasRoom
+  some-not x xs = lt-leb (length (x ∷ xs)) (length (drop fill out)) (rw length-drop (omega arith))
+
+  past-whole : (ls : List (List ℕ)) → asFar ls out fill .whole ≡ true → Whole ls out fill
+  unfolding inOne
+  past-whole [] t = none-whole out fill
+  past-whole ([] ∷ ls) t = go has-none (past-whole ls)
+    where
+      has-none : hasRoom out fill [] ≡ true
+      has-none = unfold hasRoom in le-leb 0 (length (drop fill out)) (omega arith)
+
+      go : hasRoom out fill [] ≡ true → (asFar ls out fill .whole ≡ true → Whole ls out fill) → Whole ([] ∷ ls) out fill
+      go e ih =
+          let z : fill + 0 ≡ fill = omega arith in
+          let f : asFar ([] ∷ ls) out fill ≡ asFar ls out fill = far-room out fill [] ls e ∙ rw (none-after e, z) in
+          let g : asFarOut ([] ∷ ls) out fill ≡ asFarOut ls out fill = out-room out fill [] ls e ∙ rw (none-after e, z) in
+          let w = ih (sym (ap (λ (r : Ran). r .whole) f) ∙ t) in
+          record { answer = f ∙ w .answer; holds = g ∙ w .holds }
+  past-whole ((x ∷ xs) ∷ ls) t =
+      absurd (false≢true (sym (ap (λ (r : Ran). r .whole) (far-none out fill (x ∷ xs) ls (some-not x xs))) ∙ t))
+
 -- the report is one text: what stood before the fill stays, and the fill moves by its length
-pub whole-text : (ls : List (List ℕ)) (out : List ℕ) (fill : ℕ) → fill ≤ length out → asFar ls out fill .whole ≡ true → Whole ls out fill
-whole-text ls out fill h t = all-whole ls out fill (whole-room ls out fill h t)
+pub whole-text : (ls : List (List ℕ)) (out : List ℕ) (fill : ℕ) → asFar ls out fill .whole ≡ true → Whole ls out fill
+whole-text ls out fill t = go (leb fill (length out)) refl
+  where
+    go : (b : Bool) → leb fill (length out) ≡ b → Whole ls out fill
+    go true e = all-whole ls out fill (whole-room ls out fill (leb-true fill (length out) e) t)
+    go false e = past-whole out fill (omega (arith, leb-false fill (length out) e)) ls t

@@ -1,4 +1,4 @@
--- Laws of the rows of a report: the first of those that are left, and none left.
+-- Laws of the rows of a report: the first of those that are left, none left, and what one line says.
 use mathlib.Core.Path.{_≡_, sym, ap, _∙_}
 use mathlib.Core.Bool.{true, false}
 use mathlib.Core.List.{List, [], _∷_}
@@ -40,6 +40,7 @@ module _ (p : Plan) (s : ℕ) {out : List ℕ} {at : ℕ} {all : List (List ℕ)
   pub leads-none : p .subsystems ≤ s → Leads (reportFrom p (p .subsystems - s) s) out at all out₀ fill → Leads [] out at all out₀ fill
   leads-none h w = rw (rows-none p (p .subsystems) s h) at w
 
+-- all are left
 pub leads-rows : (p : Plan) (s : ℕ) (out : List ℕ) (fill : ℕ) → s ≡ 0
     → Leads (reportFrom p (p .subsystems - s) s) out fill (reportFrom p (p .subsystems) 0) out fill
 leads-rows p s out fill z =
