@@ -1,2 +1,4 @@
 pub mod Lined
 pub mod Stream
+pub mod AsFar
+pub mod Reporting

@@ -1,4 +1,6 @@
 // The run program and the admission report as library calls over slices, in whole and in pieces.
+pub mod report;
+
 use state::State;
 
 // What one event line gives. number: the answer, or 33 where its printed line has no room; then state and fill are those lent.
@@ -6,4 +8,10 @@ pub struct Lined {
     pub number: u8,
     pub state: State,
     pub fill: usize,
+}
+
+// What lines written one behind the other give: the fill behind the last that had room, and whether that was the last of all.
+pub struct Ran {
+    pub fill: usize,
+    pub whole: bool,
 }
