@@ -18,3 +18,13 @@ pub mod Spends
 pub mod Lowers
 pub mod HeldBack
 pub mod TickHeldBack
+pub mod Lending
+pub mod Asking
+pub mod Rest
+pub mod Answering
+pub mod Narrowing
+pub mod Stepping
+pub mod Parts
+pub mod Refills
+pub mod Settling
+pub mod WholeTick

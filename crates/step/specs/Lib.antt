@@ -3,3 +3,4 @@ pub mod Events
 pub mod Tick
 pub mod Step
 pub mod Strict
+pub mod Lent

@@ -1,0 +1,74 @@
+-- What (a) leaves is legal with nothing used up, so that (b) and (c) have room.
+use mathlib.Core.Path.{_∙_}
+use Rattle.choice.proofs.Held.{runs-lent}
+use Rattle.step.proofs.Lending.{own-lengths}
+use Rattle.step.proofs.Settling.{lent-kept}
+use Rattle.step.proofs.WholeTick.{ticked-idle, waited-room, used-room, ticked-in}
+use borrow.Author.Needs.{needs}
+use Rattle.step.proofs.tick.tick.Statement.{statement}
+use Rattle.step.proofs.tick.tick.Tie as tie
+
+settle-requires : tie.Need-settle-requires
+settle-requires c κs = search needs
+
+tick-answer-requires : tie.Need-tick-answer-requires
+tick-answer-requires c κs = search needs
+
+refilled-requires : tie.Need-refilled-requires
+refilled-requires c κs = search needs
+
+returns : tie.Need-returns
+returns c = λ p L.
+    let i = c .before .before in
+    let T = i .before .before .before .settle .ensures p L in
+    ticked-idle p _ (L .accepted) (lent-kept p _ _ _ L) _ T (i .if1 .taken) _ _ (c .before .tick-answer .ensures) (c .refilled .ensures p (own-lengths p _ _ (L .rows-of)))
+
+given-waited-requires : tie.Need-given-waited-requires
+given-waited-requires c κs = search needs
+
+runs-requires : tie.Need-runs-requires
+runs-requires c κs = search needs
+
+charged-requires : tie.Need-charged-requires
+charged-requires c κs = search needs
+
+ran-requires : tie.Need-ran-requires
+ran-requires c κs = search needs
+
+tick-answer-requires-2 : tie.Need-tick-answer-requires-2
+tick-answer-requires-2 c κs = search needs
+
+refilled-requires-2 : tie.Need-refilled-requires-2
+refilled-requires-2 c κs = search needs
+
+returns-2 : tie.Need-returns-2
+returns-2 c = λ p L.
+    let a = c .before in
+    let r = a .before in
+    let q = r .before in
+    let k = q .before in
+    let g = k .before .before .before in
+    let i = g .before in
+    let A = L .accepted in
+    let S = lent-kept p _ _ _ L in
+    let R = own-lengths p _ _ (L .rows-of) in
+    let T = i .before .before .before .settle .ensures p L in
+    let given = g .given-waited .ensures p (L .rows-of) (waited-room p _ A S _ T) in
+    ticked-in p _ A S _ T (i .if1 .left) _ _ _ _ _ _ given (k .runs .ensures ∙ runs-lent p _ _) (q .charged .ensures)
+    (r .ran .ensures p R (used-room p _ A S _ T _ given _ (q .charged .ensures) _)) (a .tick-answer2 .ensures) (c .refilled2 .ensures p R)
+
+pub tick-spec : {M : Type 1} → statement M
+tick-spec =
+    tie.close
+    (tie.spec
+    settle-requires
+    tick-answer-requires
+    refilled-requires
+    returns
+    given-waited-requires
+    runs-requires
+    charged-requires
+    ran-requires
+    tick-answer-requires-2
+    refilled-requires-2
+    returns-2)
