@@ -1,3 +1,9 @@
 pub mod Keeping
 pub mod Going
 pub mod Pieces
+pub mod LineSteps
+pub mod KeptBytes
+pub mod TakenLines
+pub mod WholeLines
+pub mod FirstLines
+pub mod LineLoop

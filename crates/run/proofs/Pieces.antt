@@ -59,7 +59,7 @@ module _ (p : Plan) (s : State) (n : ℕ) where
 
 -- what is kept of a line is answered as the line is
 module _ (p : Plan) (s : State) {l : List ℕ} (w : Whole lineFeed l) where
-  gives-kept : lineGives p s (take mostKept (l ++ (lineFeed ∷ []))) ≡ lineGives p s (l ++ (lineFeed ∷ []))
+  pub gives-kept : lineGives p s (take mostKept (l ++ (lineFeed ∷ []))) ≡ lineGives p s (l ++ (lineFeed ∷ []))
   unfolding lineGives
   gives-kept = ap (eventGives p s) (event-kept w)
 
