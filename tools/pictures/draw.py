@@ -1,9 +1,10 @@
 """Draws a followed run as one SVG picture: a lane a subsystem, a box a tick, marks above the boxes, bars and counts under them."""
 from . import layout, shapes
-from .facts import Mark
+from .facts import Mark, Wait
 from .shapes import text
 
-TOP, GAP, LEVEL, BOX, BAR, COUNT = 84, 22, 14, 26, 16, 26
+TOP, GAP, LEVEL, BOX, BAR, COUNT = 84, 20, 15, 26, 17, 27
+SHUT = 38  # what the word at the end of a shut bar takes
 AGAIN, ROOM = 1300, 300  # a wide picture has the lanes' names again every so often, so that they are in sight wherever one looks
 
 
@@ -42,7 +43,7 @@ class Lane:
         owners = self.run.plan.owners
         found = [item for item in self.run.holds + self.run.waits if owners[item.task] == self.row]
         found.sort(key=lambda item: item.start)
-        spans = [(self.x(item.start), self.bar_end(item) + (34 if shut(item) else 0)) for item in found]
+        spans = [(self.x(item.start), self.bar_end(item) + (SHUT if item.how == 'shut' else 0)) for item in found]
         chosen, count = layout.rows(spans)
         return list(zip(found, chosen)), count
 
@@ -50,8 +51,8 @@ class Lane:
         """How far to the right the texts of the lane may go."""
         ends = [self.x(mark.at) + layout.label_width(label) for mark, _, label in self.marks]
         if self.row is not None:
-            ends += [self.x(period.first) + layout.text_width(so_far(period), 11) for period in self.run.periods(self.row)[-1:]]
-            ends += [self.bar_end(item) + 34 for item, _ in self.bars if shut(item)]
+            ends += [self.x(period.first) + layout.text_width(counted(period, self.width)) for period in self.run.periods(self.row)[-1:]]
+            ends += [self.bar_end(item) + SHUT for item, _ in self.bars if item.how == 'shut']
         return max(ends, default=0) + 16
 
     def bar_end(self, item):
@@ -59,12 +60,12 @@ class Lane:
         return max(self.x(end), self.x(item.start) + 5)
 
 
-def so_far(period):
-    return f'{period.charged} / {period.budget}' + ('' if period.complete else ' so far')
-
-
-def shut(item):
-    return getattr(item, 'how', None) == 'shut'
+def counted(period, width):
+    """What was charged of the budget, written closer in a period of one tick."""
+    if not period.complete:
+        return f'{period.charged} / {period.budget} so far'
+    room = (period.end - period.first) * width
+    return layout.fitting([f'{period.charged} / {period.budget}'], room) or f'{period.charged}/{period.budget}'
 
 
 def picture(run, plan_name, events_name):
@@ -73,13 +74,13 @@ def picture(run, plan_name, events_name):
     if any(mark.lane is None for mark in run.marks):
         lanes.insert(0, Lane(run, None))
     width = layout.tick_width([lane.groups for lane in lanes])
-    left = 24 + int(max(layout.text_width(lane.name(), 11.5) for lane in lanes))
+    left = 24 + int(max(layout.text_width(lane.name(), 12.5) for lane in lanes))
     bottom = TOP + (14 if left + len(run.ticks) * width > AGAIN + ROOM else 0)
     for lane in lanes:
         bottom = lane.place(bottom, left, width) + GAP
-    right = int(max([860, left + len(run.ticks) * width + 16] + [lane.reach() for lane in lanes]))
-    key, height = shapes.legend(16, bottom + 12, right - 16)
     title = f'{plan_name} with {events_name}: {plural(len(run.ticks), "tick")}, {plural(run.event, "event")}'
+    right = int(max([910, 32 + layout.text_width(title, 16), left + len(run.ticks) * width + 16] + [lane.reach() for lane in lanes]))
+    key, height = shapes.legend(16, bottom + 12, right - 16)
     parts = [shapes.head(right, height, title, summary(run)), *axis(run, lanes, left, width, bottom - GAP)]
     for lane in lanes:
         parts += draw_lane(lane, left + len(run.ticks) * width)
@@ -113,34 +114,34 @@ def axis(run, lanes, left, width, bottom):
 
 
 def draw_lane(lane, right):
-    parts = [f'<line class="rule" x1="16" y1="{lane.top - 4:g}" x2="{right:g}" y2="{lane.top - 4:g}"/>']
+    parts = [f'<line class="rule" x1="16" y1="{lane.top - 4:.9g}" x2="{right:.9g}" y2="{lane.top - 4:.9g}"/>']
     middle = lane.boxes - 3 if lane.row is None else lane.boxes + BOX / 2 + 4
     parts.append(text(lane.left - 12, middle, lane.name(), 'name', 'end'))
     parts += [text(x, lane.top - 9, lane.name(), 'again') for x in range(AGAIN, right - ROOM, AGAIN)]
     if lane.row is not None:
-        parts += draw_counts(lane, right) + draw_boxes(lane) + draw_bars(lane)
+        parts += draw_counts(lane) + draw_boxes(lane) + draw_bars(lane)
     return parts + draw_marks(lane)
 
 
-def draw_counts(lane, right):
+def draw_counts(lane):
     """The grid of the periods, the refills, and under each period what was charged of the budget."""
     base = lane.counts
     parts = [text(lane.left - 12, base + 16, 'charged / budget', 'note', 'end')]
     for period in lane.run.periods(lane.row):
         x, end = lane.x(period.first), lane.x(period.end)
-        parts.append(f'<line class="{"span" if period.complete else "open"}" x1="{x + 5:g}" y1="{base + 5:g}" x2="{end - 5:g}" y2="{base + 5:g}"/>')
+        parts.append(f'<line class="{"span" if period.complete else "open"}" x1="{x + 5:.9g}" y1="{base + 5:.9g}" x2="{end - 5:.9g}" y2="{base + 5:.9g}"/>')
         off = period.charged > period.budget or period.complete and period.charged < period.budget
         place = ((x + end) / 2, 'middle') if period.complete else (x + 5, '')
-        parts.append(text(place[0], base + 17, so_far(period), 'off' if off else 'count', place[1]))
+        parts.append(text(place[0], base + 17, counted(period, lane.width), 'off' if off else '', place[1]))
     for at in lane.run.refills(lane.row):
         x = lane.x(at)
-        parts.append(f'<line class="grid" x1="{x:g}" y1="{lane.top - 4:g}" x2="{x:g}" y2="{base + 4:g}"/>')
+        parts.append(f'<line class="grid" x1="{x:.9g}" y1="{lane.top - 4:.9g}" x2="{x:.9g}" y2="{base + 4:.9g}"/>')
         parts.append(shapes.refill(x, base + 5))
     return parts
 
 
 def draw_boxes(lane):
-    parts = [f'<line class="rule" x1="{lane.left:g}" y1="{lane.boxes + BOX:g}" x2="{lane.x(len(lane.run.ticks)):g}" y2="{lane.boxes + BOX:g}"/>']
+    parts = [f'<line class="rule" x1="{lane.left:.9g}" y1="{lane.boxes + BOX:.9g}" x2="{lane.x(len(lane.run.ticks)):.9g}" y2="{lane.boxes + BOX:.9g}"/>']
     for tick in lane.run.ticks:
         if tick.sub == lane.row:
             label = 'idle' if tick.task is None else f'T{tick.task}'
@@ -148,21 +149,24 @@ def draw_boxes(lane):
     return parts
 
 
+def bar_texts(run, item):
+    """The kind of a bar, and its texts from the longest."""
+    task, resource = f'T{item.task}', f'R{item.resource}'
+    if isinstance(item, Wait):
+        why = f'{item.needed} needed, {item.left} left'
+        return 'wait', [f'{task} waits for {resource}: {why}', f'{task} {resource}: {why}', f'{task} {resource} waits', f'{task} {resource}', resource]
+    if run.plan.kinds[item.resource] == 'L':
+        return 'local', [f'{task} holds {resource}', f'{task} {resource}', resource]
+    used = f'{item.used}/{run.plan.lengths[item.task, item.resource]}'
+    return 'global', [f'{task} holds {resource} {used}', f'{task} {resource} {used}', f'{resource} {used}', resource]
+
+
 def draw_bars(lane):
     parts = []
     for item, row in lane.bars:
         x, end, y = lane.x(item.start), lane.bar_end(item), lane.boxes + BOX + 4 + BAR * row
-        who = f'T{item.task} R{item.resource}'
-        if hasattr(item, 'needed'):
-            long = f'T{item.task} waits for R{item.resource}: {item.needed} needed, {item.left} left'
-            parts.append(shapes.bar(x, y, end - x, 'wait', [long, f'{who}: {item.needed} needed, {item.left} left', f'{who} waits', who, 'waits']))
-            continue
-        if lane.run.plan.kinds[item.resource] == 'L':
-            parts.append(shapes.bar(x, y, end - x, 'local', [f'T{item.task} holds R{item.resource}', who, f'R{item.resource}']))
-        else:
-            used = f'{item.used}/{lane.run.plan.lengths[item.task, item.resource]}'
-            parts.append(shapes.bar(x, y, end - x, 'global', [f'T{item.task} holds R{item.resource} {used}', f'{who} {used}', f'R{item.resource} {used}', f'R{item.resource}']))
-        if shut(item):
+        parts.append(shapes.bar(x, y, end - x, *bar_texts(lane.run, item)))
+        if item.how == 'shut':
             parts.append(shapes.shut_end(end, y))
     return parts
 
@@ -173,6 +177,6 @@ def draw_marks(lane):
         x, y = lane.x(mark.at), lane.boxes - 8 - LEVEL * level
         low, kind = (lane.boxes + BOX + 2, 'shutline') if mark.kind == 'shut' else (lane.boxes, 'lead')
         lines.setdefault((x, kind), [y, low])[0] = y
-        parts.append(shapes.mark(x, y, mark.kind, label, f'event {mark.event}: {mark.text}'))
-    drawn = [f'<line class="{kind}" x1="{x:g}" y1="{y:g}" x2="{x:g}" y2="{low:g}"/>' for (x, kind), (y, low) in lines.items()]
+        parts.append(shapes.mark(x, y, mark.kind, label, f'event {mark.event}, {mark.label}: {mark.text}'))
+    drawn = [f'<line class="{kind}" x1="{x:.9g}" y1="{y:.9g}" x2="{x:.9g}" y2="{low:.9g}"/>' for (x, kind), (y, low) in lines.items()]
     return drawn + parts

@@ -22,7 +22,7 @@ class Wait:
 
     def __init__(self, task, resource, start, needed, left):
         self.task, self.resource, self.start, self.needed, self.left = task, resource, start, needed, left
-        self.end, self.paid = None, 0
+        self.end, self.how, self.paid = None, None, 0
 
 
 class Run:

@@ -1,11 +1,11 @@
 """Where things go: how wide a tick is, on which level a label stands, in which row a bar lies. All in the picture's units."""
 from collections import defaultdict
 
-NARROW, WIDE = 24, 32  # of a tick's box
+NARROW, WIDE = 24, 34  # of a tick's box
 CROWD = 7  # labels above each other at one place, and those that a long label may go over
 
 
-def text_width(text, size=10):
+def text_width(text, size=11):
     """An upper estimate, since the viewer picks the font."""
     return len(text) * size * 0.6
 
@@ -63,6 +63,6 @@ def rows(spans):
     return chosen, len(ends)
 
 
-def fitting(texts, room, size=10):
+def fitting(texts, room, size=11):
     """The first of the texts that fits in the room, or none."""
     return next((text for text in texts if text_width(text, size) <= room), '')
