@@ -40,7 +40,7 @@ module _ (t : List ℕ) where
   unfolding firstLine
   first-is = ap (λ (k : ℕ). take k t) (add-one (until lineFeed t))
 
-  first-length : until lineFeed t < length t → length (firstLine t) ≡ suc (until lineFeed t)
+  pub first-length : until lineFeed t < length t → length (firstLine t) ≡ suc (until lineFeed t)
   first-length h = ap length first-is ∙ length-take-le (suc (until lineFeed t)) t h
 
   pub first-ended : until lineFeed t < length t → until lineFeed (firstLine t) + 1 ≡ length (firstLine t)

@@ -7,3 +7,7 @@ pub mod TakenLines
 pub mod WholeLines
 pub mod FirstLines
 pub mod LineLoop
+pub mod OutTwice
+pub mod FedFacts
+pub mod PutLines
+pub mod Starting

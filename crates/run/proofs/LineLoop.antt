@@ -21,12 +21,12 @@ use Rattle.run.proofs.FirstLines.{first-some, lines-first, line-taken-l
 
 -- lines taken, by the room of the first
 module _ (p : Plan) (x : At) (l : List ℕ) (ls : List (List ℕ)) (out : List ℕ) (fill : ℕ) where
-  lines-room : hasRoom out fill (fedPrinted p x l) ≡ true
+  pub lines-room : hasRoom out fill (fedPrinted p x l) ≡ true
       → linesTaken p x (l ∷ ls) out fill ≡ behind (length l) (linesTaken p (fed p x l) ls (outAfter out fill (fedPrinted p x l)) (fill + length (fedPrinted p x l)))
   unfolding linesTaken
   lines-room e = rw (linesTaken, e)
 
-  lines-none : hasRoom out fill (fedPrinted p x l) ≡ false → linesTaken p x (l ∷ ls) out fill ≡ nothing x out fill
+  pub lines-none : hasRoom out fill (fedPrinted p x l) ≡ false → linesTaken p x (l ∷ ls) out fill ≡ nothing x out fill
   unfolding linesTaken
   lines-none e = rw (linesTaken, e)
 

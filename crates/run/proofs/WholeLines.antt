@@ -53,7 +53,7 @@ module _ (p : Plan) where
   fed-inside x b [] (Whole.on e w) = byte-on p x b e
   fed-inside x b (a ∷ l) (Whole.on e w) = rw (byte-on p x b e) (fed-inside (keeping x (b ∷ [])) a l w ∙ keeping-again x (b ∷ []) (a ∷ l))
 
-  printed-inside : (x : At) {l : List ℕ} → Whole lineFeed l → fedPrinted p x l ≡ []
+  pub printed-inside : (x : At) {l : List ℕ} → Whole lineFeed l → fedPrinted p x l ≡ []
   unfolding fedPrinted
   printed-inside x Whole.end = refl
   printed-inside x (Whole.on {x = b} e w) = rw (byte-quiet p x b e) (printed-inside (fedByte p x b) w)
@@ -83,10 +83,10 @@ module _ (p : Plan) (x : At) {l : List ℕ} (w : Whole lineFeed l) (none : x .ke
       rw none
       (ap
       (λ o.
-      elim (leb (x .number) mostLines) [
-        | true ↦ record { state = o .state; number = x .number + 1; kept = [] }
-        | false ↦ record { state = x .state; number = x .number; kept = [] }
-      ])
+        elim (leb (x .number) mostLines) [
+          | true ↦ record { state = o .state; number = x .number + 1; kept = [] }
+          | false ↦ record { state = x .state; number = x .number; kept = [] }
+        ])
       (sym (gives-kept p (x .state) w)))
 
   printed-there : linePrinted p (wholeLine x (l ++ (lineFeed ∷ []))) ≡ linePrinted p (keeping x (l ++ (lineFeed ∷ [])))

@@ -1,3 +1,4 @@
 pub mod Lined
 pub mod Stream
 pub mod Fed
+pub mod Ran

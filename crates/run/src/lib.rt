@@ -1,6 +1,7 @@
 // The run program and the admission report as library calls over slices, in whole and in pieces.
 mod lines;
 pub mod stream;
+mod whole;
 
 pub use lines::line_step;
 use state::State;
