@@ -1,12 +1,12 @@
 -- What is taken of a piece, as facts with names: how much, where the run stands then, what the buffer holds, and why it stopped where it did.
 use mathlib.Core.Path.{_≡_, refl, sym, ap, _∙_}
 use mathlib.Core.Bool.{Bool, true, false}
-use mathlib.Core.List.{List, [], _∷_, _++_}
+use mathlib.Core.List.{List, [], _++_}
 use Prim.Native.Nat.{ℕ, zero, suc, _+_, _≤_, _<_}
 use native.Mathlib.Nat.{add-zero, add-assoc}
 use native.Mathlib.Omega.{arith}
 use lib.Dec.{ltb}
-use lib.ListN.{length, take, drop, length-append, length-drop, drop-of-length-le}
+use lib.ListN.{length, take, drop, length-append, length-drop}
 use lib.Seq.{take-add, drop-drop}
 use borrow.Author.Tests.{ltb-true, ltb-false}
 use Rattle.below.proofs.Tests.{clash}

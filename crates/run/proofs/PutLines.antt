@@ -4,7 +4,6 @@ use mathlib.Core.Bool.{Bool, true, false}
 use mathlib.Core.List.{List, [], _∷_, _++_, append-nil}
 use Prim.Native.Nat.{ℕ, zero, suc, _+_, _-_, _≤_, _<_}
 use native.Mathlib.Omega.{arith}
-use lib.Dec.{leb}
 use lib.ListN.{length, take, drop, drop-of-length-le}
 use lib.Seq.{take-nil, drop-drop}
 use Rattle.text.specs.Lines.{lineFeed, until, lines}
@@ -27,7 +26,7 @@ use Rattle.run.specs.Fed.{firstLine}
 use Rattle.run.specs.Ran.{Put, linesPut, printedLines, runLines}
 use Rattle.run.proofs.KeptBytes.{take-length-take}
 use Rattle.run.proofs.LineSteps.{line-lent}
-use Rattle.run.proofs.TakenLines.{given, text, step-room, step-none, no-room, some-room, out-full}
+use Rattle.run.proofs.TakenLines.{given, text, step-room, no-room, some-room, out-full}
 use Rattle.run.proofs.FirstLines.{lines-first}
 
 -- lines put, by the room of the first

@@ -1,23 +1,18 @@
 -- Laws of one line as it is fed: its end with the line feed, a piece that ends within it, and the first line of a piece.
 use mathlib.Core.Path.{_≡_, refl, sym, ap, ap₂, _∙_}
-use mathlib.Core.Bool.{Bool, true, false}
+use mathlib.Core.Bool.{true, false}
 use mathlib.Core.List.{List, [], _∷_, _++_, append-nil, append-assoc}
-use Prim.Native.Nat.{ℕ, suc, _+_, _≤_, _<_}
-use native.Mathlib.Nat.{zero-add}
-use native.Mathlib.Numerals.{add-one}
+use Prim.Native.Nat.{ℕ, suc, _+_, _≤_}
 use native.Mathlib.Omega.{arith}
-use lib.Dec.{ltb, leb}
-use lib.ListN.{length, take, drop}
-use lib.Seq.{take-all, length-take-le, drop-length}
-use borrow.Author.Tests.{ltb-true, ltb-false, eq-eqb}
-use Rattle.text.specs.Lines.{lineFeed, until, lines}
+use lib.Dec.{leb}
+use lib.ListN.{length, take}
+use Rattle.text.specs.Lines.{lineFeed, until}
 use Rattle.text.proofs.Parted.{Parted, Whole, parted, whole}
-use Rattle.text.proofs.Lines.{lines-feed, lines-whole}
 use Rattle.plan.specs.declared.Plan.{Plan}
 use Rattle.line.specs.Printed.{printed}
-use Rattle.line.specs.Run.{mostLines, lineGives}
+use Rattle.line.specs.Run.{mostLines}
 use Rattle.run.specs.Stream.{At, mostKept, keeping, isGoing, lineDone, linePrinted, fedByte, bytePrinted, fed, fedPrinted}
-use Rattle.run.specs.Fed.{Taken, nothing, takenTo, lineTaken, firstLine, wholeLine}
+use Rattle.run.specs.Fed.{Taken, takenTo, lineTaken, wholeLine}
 use Rattle.run.proofs.Keeping.{take-again}
 use Rattle.run.proofs.Going.{byte-on, byte-quiet}
 use Rattle.run.proofs.Pieces.{gives-kept}
@@ -83,10 +78,10 @@ module _ (p : Plan) (x : At) {l : List ℕ} (w : Whole lineFeed l) (none : x .ke
       rw none
       (ap
       (λ o.
-        elim (leb (x .number) mostLines) [
-          | true ↦ record { state = o .state; number = x .number + 1; kept = [] }
-          | false ↦ record { state = x .state; number = x .number; kept = [] }
-        ])
+      elim (leb (x .number) mostLines) [
+        | true ↦ record { state = o .state; number = x .number + 1; kept = [] }
+        | false ↦ record { state = x .state; number = x .number; kept = [] }
+      ])
       (sym (gives-kept p (x .state) w)))
 
   printed-there : linePrinted p (wholeLine x (l ++ (lineFeed ∷ []))) ≡ linePrinted p (keeping x (l ++ (lineFeed ∷ [])))

@@ -79,15 +79,7 @@ fn run_lines(
             };
         }
         let end = line_end(events, at);
-        let l = line_step(
-            rows,
-            lengths,
-            state,
-            number,
-            &events[at..end],
-            out,
-            filled,
-        );
+        let l = line_step(rows, lengths, state, number, &events[at..end], out, filled);
         if l.fill == filled {
             return Ran {
                 number: 33,

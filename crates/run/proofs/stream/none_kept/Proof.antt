@@ -1,11 +1,9 @@
+-- `run::stream::none_kept` meets its contract: a length of 0 keeps nothing.
 use mathlib.Core.Path.{refl}
 use Rattle.run.specs.Fed.{keptOf}
 use Rattle.run.proofs.stream.none_kept.Statement.{statement}
 use Rattle.run.proofs.stream.none_kept.Tie as tie
-use Rattle.run.proofs.stream.none_kept.Reads as reads
-use Rattle.run.proofs.stream.none_kept.Lts as lts
 
--- src/stream.rt:36:1
 returns : tie.Need-returns
 unfolding keptOf
 returns c = refl

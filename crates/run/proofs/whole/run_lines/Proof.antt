@@ -1,5 +1,7 @@
-use mathlib.Core.Path.{_≡_, refl, sym, ap, _∙_}
-use Prim.Native.Nat.{_+_, _-_, _≤_}
+-- `run::whole::run_lines` meets its contract. The loop's invariant: the lines that are left, put from here, give what all of them give; the state is
+-- legal, and the buffer keeps its length. The measure is what is left of the text.
+use mathlib.Core.Path.{_≡_, refl, _∙_}
+use Prim.Native.Nat.{_-_, _≤_}
 use native.Mathlib.Omega.{arith}
 use lib.ListN.{length, take, drop, length-drop}
 use borrow.Author.Needs.{needs}
@@ -14,10 +16,6 @@ use Rattle.run.proofs.FirstLines.{first-some, first-within}
 use Rattle.run.proofs.PutLines.{linesLeft, left-start, left-end, left-over, turn-room, turn-none, turn-legal, first-lent}
 use Rattle.run.proofs.whole.run_lines.Statement.{statement}
 use Rattle.run.proofs.whole.run_lines.Tie as tie
-use Rattle.run.proofs.whole.run_lines.Reads as reads
-use Rattle.run.proofs.whole.run_lines.Lts as lts
-use Rattle.run.proofs.lines.line_step.Reads as line-step-reads
-use Rattle.run.proofs.whole.line_end.Reads as line-end-reads
 
 abbrev Inv-loop : tie.InvT-loop
 Inv-loop rows lengths events out₀ fill state₀ number₀ at₀ filled₀ out state number at filled =
@@ -30,24 +28,20 @@ Inv-loop rows lengths events out₀ fill state₀ number₀ at₀ filled₀ out 
 abbrev μ-loop : tie.MeasureT-loop
 μ-loop rows lengths events out₀ fill state₀ number₀ at₀ filled₀ out state number at filled = length events - at
 
--- src/whole.rt:74:5
 loop-holds : tie.Need-loop-holds Inv-loop μ-loop
 loop-holds c =
     let a = c .before .before .before .args in
     (omega arith, refl, λ p h. (h, left-start p (a .s) (a .events .now) (a .out .now) (a .fill)))
 
--- src/whole.rt:76:13
 same-length : tie.Need-same-length Inv-loop μ-loop
 same-length c = c .before .before .loop .inv .1
 
--- src/whole.rt:76:13
 returns : tie.Need-returns Inv-loop μ-loop
 unfolding putOf linesPut
 returns c =
     let l = c .before .before .loop in
     λ p h. rw (left-over p (l .state) (l .number) (drop (l .at) (c .before .before .before .before .before .before .args .events .now)) (c .if1 .taken)) at (l .inv .2 p h .1)
 
--- src/whole.rt:81:13
 line-end-requires : tie.Need-line-end-requires Inv-loop μ-loop
 line-end-requires c κs = c .before .loop-test .taken
 
@@ -72,27 +66,15 @@ turn c p h =
     let a = c .before .before .before .before .before .before .before .before .before .before .args in
     rw (first-lent (a .events .now) (l .at) _ (c .before .before .before .line-end .ensures)) at (c .line-step .ensures .1 p (l .inv .2 p h .0))
 
--- src/whole.rt:87:13
 sub-line-step : tie.Need-sub-line-step Inv-loop μ-loop
 sub-line-step c = omega (arith, c .line-end .ensures)
 
--- src/whole.rt:87:13
 part-line-step-start : tie.Need-part-line-step-start Inv-loop μ-loop
 part-line-step-start c = omega (arith, c .line-end .ensures)
 
--- src/whole.rt:87:13
 part-line-step-end : tie.Need-part-line-step-end Inv-loop μ-loop
 part-line-step-end c = within c
 
--- src/whole.rt:82:13
-line-step-requires : tie.Need-line-step-requires Inv-loop μ-loop
-line-step-requires c κs = search needs
-
--- src/whole.rt:92:13
-same-length-2 : tie.Need-same-length-2 Inv-loop μ-loop
-same-length-2 c = search needs
-
--- src/whole.rt:92:13
 returns-2 : tie.Need-returns-2 Inv-loop μ-loop
 unfolding putOf
 returns-2 c =
@@ -100,21 +82,18 @@ returns-2 c =
     let l = q .before .before .before .before .before .before .loop in
     let a = q .before .before .before .before .before .before .before .before .before .before .args in
     λ p h.
-      let e = turn q p h in
-      turn-none p (l .state) (l .number) (a .events .now) (l .at) (l .out) (l .filled) (some (q .before .before .before)) (q .before .before .before .before .if1 .left) (e .0) (e .1) (c .if2 .taken)
-      ∙ l .inv .2 p h .1
+    let e = turn q p h in
+    turn-none p (l .state) (l .number) (a .events .now) (l .at) (l .out) (l .filled) (some (q .before .before .before)) (q .before .before .before .before .if1 .left) (e .0) (e .1) (c .if2 .taken)
+    ∙ l .inv .2 p h .1
 
--- src/whole.rt:100:9
 add-number : tie.Need-add-number Inv-loop μ-loop
 add-number c = omega (arith, c .before .before .before .before .before .before .before .before .before .if1 .left)
 
--- src/whole.rt:74:5
 loop-less : tie.Need-loop-less Inv-loop μ-loop
 loop-less c =
     let q = c .before .before .before .before .before .before .before .before in
     omega (arith, q .line-end .ensures, within q, first-some (drop (q .before .before .before .loop .at) (q .before .before .before .before .before .before .before .args .events .now)) (some q))
 
--- src/whole.rt:74:5
 loop-again : tie.Need-loop-again Inv-loop μ-loop
 loop-again c =
     let q = c .before .before .before .before .before in
@@ -123,19 +102,17 @@ loop-again c =
       within (q .before .before .before),
       search needs,
       λ p h.
-        let e = turn q p h in (
-          turn-legal p (l .state) (l .number) (a .events .now) (l .at) (l .out) (l .filled) (some (q .before .before .before)) (q .before .before .before .before .if1 .left) (e .0) (e .1) (a .rows) (a .lengths .now) (c .before .if2 .left) (l .inv .2 p h .0),
-          rw (q .before .before .before .line-end .ensures)
-          (turn-room p (l .state) (l .number) (a .events .now) (l .at) (l .out) (l .filled) (some (q .before .before .before)) (q .before .before .before .before .if1 .left) (e .0) (e .1) (c .before .if2 .left))
-          ∙ l .inv .2 p h .1,
-        ),
+          let e = turn q p h in (
+            turn-legal p (l .state) (l .number) (a .events .now) (l .at) (l .out) (l .filled) (some (q .before .before .before)) (q .before .before .before .before .if1 .left) (e .0) (e .1) (a .rows) (a .lengths .now) (c .before .if2 .left) (l .inv .2 p h .0),
+            rw (q .before .before .before .line-end .ensures)
+                (turn-room p (l .state) (l .number) (a .events .now) (l .at) (l .out) (l .filled) (some (q .before .before .before)) (q .before .before .before .before .if1 .left) (e .0) (e .1) (c .before .if2 .left))
+                ∙ l .inv .2 p h .1,
+          ),
     )
 
--- src/whole.rt:59:1
 same-length-3 : tie.Need-same-length-3 Inv-loop μ-loop
 same-length-3 c = c .before .loop .inv .1
 
--- src/whole.rt:59:1
 returns-3 : tie.Need-returns-3 Inv-loop μ-loop
 unfolding putOf linesPut
 returns-3 c =
@@ -155,8 +132,8 @@ run-lines-spec =
     sub-line-step
     part-line-step-start
     part-line-step-end
-    line-step-requires
-    same-length-2
+    (λ c κs. search needs)
+    (λ c. search needs)
     returns-2
     add-number
     loop-less
