@@ -17,6 +17,36 @@ mod c {
             row: u32,
             margin: *mut i64,
         ) -> u32;
+        pub fn skrzypolot_fresh(
+            block: *const u8,
+            block_len: usize,
+            image: *mut u8,
+            image_len: usize,
+        ) -> u32;
+        pub fn skrzypolot_step(
+            block: *const u8,
+            block_len: usize,
+            image: *mut u8,
+            image_len: usize,
+            kind: u32,
+            task: u32,
+            resource: u32,
+            subsystem: *mut u32,
+            running: *mut u32,
+            ended: *mut u32,
+        ) -> u32;
+        pub fn skrzypolot_line(
+            block: *const u8,
+            block_len: usize,
+            image: *mut u8,
+            image_len: usize,
+            number: u32,
+            line: *const u8,
+            line_len: usize,
+            out: *mut u8,
+            out_len: usize,
+            fill: *mut usize,
+        ) -> u32;
     }
 }
 
@@ -36,4 +66,62 @@ pub fn read(text: &[u8], block: &mut [u8], beside: &mut u32) -> u32 {
 pub fn margin(text: &[u8], row: u32, margin: &mut i64) -> u32 {
     // SAFETY: as above.
     unsafe { c::skrzypolot_margin(text.as_ptr(), text.len(), row, margin) }
+}
+
+pub fn fresh(block: &[u8], image: &mut [u8]) -> u32 {
+    // SAFETY: as above.
+    unsafe { c::skrzypolot_fresh(block.as_ptr(), block.len(), image.as_mut_ptr(), image.len()) }
+}
+
+#[allow(clippy::too_many_arguments)] // The list is that of the C call.
+pub fn step(
+    block: &[u8],
+    image: &mut [u8],
+    kind: u32,
+    task: u32,
+    resource: u32,
+    subsystem: &mut u32,
+    running: &mut u32,
+    ended: &mut u32,
+) -> u32 {
+    // SAFETY: as above.
+    unsafe {
+        c::skrzypolot_step(
+            block.as_ptr(),
+            block.len(),
+            image.as_mut_ptr(),
+            image.len(),
+            kind,
+            task,
+            resource,
+            subsystem,
+            running,
+            ended,
+        )
+    }
+}
+
+pub fn line(
+    block: &[u8],
+    image: &mut [u8],
+    number: u32,
+    line: &[u8],
+    out: &mut [u8],
+    fill: &mut usize,
+) -> u32 {
+    // SAFETY: as above.
+    unsafe {
+        c::skrzypolot_line(
+            block.as_ptr(),
+            block.len(),
+            image.as_mut_ptr(),
+            image.len(),
+            number,
+            line.as_ptr(),
+            line.len(),
+            out.as_mut_ptr(),
+            out.len(),
+            fill,
+        )
+    }
 }

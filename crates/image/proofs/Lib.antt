@@ -2,3 +2,9 @@ pub mod WordLaws
 pub mod Parts
 pub mod BlockLaws
 pub mod Written
+pub mod Rows
+pub mod ImageLaws
+pub mod RowsWritten
+pub mod ImageReads
+pub mod ImageExactly
+pub mod OpenedLaws

@@ -1,12 +1,16 @@
-// The plan block, both ways.
+// The plan block and the state image, both ways.
 ghost use mathlib.Core.Path.{_≡_};
 ghost use lib.Dec.{eqb};
 ghost use lib.ListN.{length};
 ghost use Rattle.image.specs.Block.{blockBytes, planOf};
 ghost use Rattle.image.specs.BlockCalls.{blockRefused, blockRead, blockWritten};
 
+mod images;
+mod opens;
 mod words;
 
+pub use images::write_image;
+pub use opens::open;
 use plan::Plan;
 use state::State;
 use words::read_bytes;

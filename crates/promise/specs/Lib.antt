@@ -1,1 +1,4 @@
 pub mod SmallSet
+pub mod Budgets
+pub mod BudgetsInC
+pub mod Sections

@@ -1,5 +1,6 @@
 // The run program and the admission report as library calls over slices, in whole and in pieces.
 mod lines;
+pub mod report;
 pub mod stream;
 mod whole;
 
@@ -13,4 +14,10 @@ pub struct Lined {
     pub number: u8,
     pub state: State,
     pub fill: usize,
+}
+
+// What lines written one behind the other give: the fill behind the last that had room, and whether that was the last of all.
+pub struct Ran {
+    pub fill: usize,
+    pub whole: bool,
 }

@@ -19,12 +19,12 @@ pub mod Lowers
 pub mod HeldBack
 pub mod TickHeldBack
 pub mod Lending
+pub mod Parts
+pub mod Refills
+pub mod Settling
+pub mod WholeTick
 pub mod Asking
 pub mod Rest
 pub mod Answering
 pub mod Narrowing
 pub mod Stepping
-pub mod Parts
-pub mod Refills
-pub mod Settling
-pub mod WholeTick

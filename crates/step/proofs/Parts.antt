@@ -6,6 +6,7 @@ use lib.Dec.{eqb}
 use borrow.Author.Tests.{eq-eqb, ne-eqb}
 use Rattle.plan.specs.declared.Plan.{Plan}
 use Rattle.plan.specs.Plan.{owner}
+use Rattle.state.specs.declared.SectionLeft.{SectionLeft}
 use Rattle.state.specs.declared.Task.{Task}
 use Rattle.state.specs.declared.State.{State}
 use Rattle.state.specs.State.{taskAt, usedOf, isWaiting, inSection, sectionLeft}
@@ -24,9 +25,9 @@ module _ (p : Plan) (s : State) (k : ℕ) where
   unfolding spentAt
   spent-outside e = rw (e, spentAt)
 
-  pub spent-in : inSection p (taskAt s k) ≡ true → spentAt p s k ≡ eqb (sectionLeft p s k .0) 0
+  pub spent-in : (q : SectionLeft) (n : ℕ) → inSection p (taskAt s k) ≡ true → q ≡ sectionLeft p s k → n ≡ 0 → eqb (q .0) n ≡ spentAt p s k
   unfolding spentAt
-  spent-in e = rw (e, spentAt)
+  spent-in q n e f z = rw (f, z, e, spentAt)
 
   -- (b)
   module _ (t : Task) (e : t ≡ taskAt s k) where
@@ -64,7 +65,7 @@ module _ (p : Plan) (s : State) (k : ℕ) where
         cc (ran-inside p s k h (section-before ∙ i))
 
 -- (a) one turn
-pub shut-is : (p : Plan) (x : Shut) (k : ℕ) (freed u : State) (c e : ℕ) → u ≡ endedTask (x .state) k → c ≡ owner p k → freed ≡ withUsed u c 0
+pub shut-is : (p : Plan) (x : Shut) (k : ℕ) (freed u : State) (c n e : ℕ) → u ≡ endedTask (x .state) k → c ≡ owner p k → n ≡ 0 → freed ≡ withUsed u c n
     → e ≡ x .ended + 2 ^ k → record { state = freed; ended = e } ≡ shutOne p x k
 unfolding shutOne
-shut-is p x k freed u c e a o f g = rw (f, a, o, g)
+shut-is p x k freed u c n e a o z f g = rw (f, a, o, z, g)

@@ -8,6 +8,7 @@ use Rattle.plan.specs.Accepted.{accepted}
 use Rattle.state.specs.declared.State.{State}
 use Rattle.state.specs.Legal.{legal}
 use Rattle.step.specs.declared.Outcome.{Outcome}
+use Rattle.step.specs.declared.Answer.{Answer}
 use Rattle.step.specs.Refusals.{release, lock, unlock, end, tick, refusal}
 use Rattle.step.specs.Events.{answered, released, locked, unlocked, endedTask}
 use Rattle.step.specs.Tick.{ticked}
@@ -44,3 +45,7 @@ unread s n = record { answer = n; subsystem = noRow; task = noRow; ended = 0; st
 unfoldable pub step : Plan → State → ℕ → ℕ → ℕ → Outcome
 step p s kind k r =
     elim (accepted p) [ false ↦ unread s 31 | true ↦ elim (legal p s) [ false ↦ unread s 32 | true ↦ stepped p s kind k r ] ]
+
+-- what an outcome answers, beside its state
+unfoldable pub answerOf : Outcome → Answer
+answerOf o = record { answer = o .answer; subsystem = o .subsystem; task = o .task; ended = o .ended }

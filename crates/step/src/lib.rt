@@ -3,7 +3,7 @@ ghost use mathlib.Core.Path.{_≡_};
 ghost use Rattle.below.specs.Listed.{listed};
 ghost use Rattle.plan.specs.Ceiling.{ceiling};
 ghost use Rattle.step.specs.Lent.{rowsOf};
-ghost use Rattle.step.specs.Step.{unread, step};
+ghost use Rattle.step.specs.Step.{unread, step, answerOf};
 
 pub mod event;
 mod order;
@@ -21,6 +21,14 @@ pub struct Outcome {
     pub task: u8,
     pub ended: u32,
     pub state: State,
+}
+
+// What an event answers, beside the state that it alters: an outcome without its state.
+pub struct Answer {
+    pub answer: u8,
+    pub subsystem: u8,
+    pub task: u8,
+    pub ended: u32,
 }
 
 // A state on the way through a tick, with the tasks ended so far.
@@ -86,4 +94,18 @@ pub fn step(p: Plan, s: State, kind: u32, task: u32, resource: u32) -> Outcome
         return unread(s, 32);
     }
     stepped(rows_with(p, ceilings), &p.lengths, s, kind, task, resource)
+}
+
+// The step on one state record that the caller lends: the step alters it, and answers with the rest of the outcome.
+pub fn step_lent(p: Plan, s: &mut State, kind: u32, task: u32, resource: u32) -> Answer
+    ensures { λ r. ⌜ (r ≡ answerOf (step p (now (s .entry)) kind task resource)) × (now (s .exit) ≡ step p (now (s .entry)) kind task resource .state) ⌝ }
+{
+    let o = step(p, *s, kind, task, resource);
+    *s = o.state;
+    Answer {
+        answer: o.answer,
+        subsystem: o.subsystem,
+        task: o.task,
+        ended: o.ended,
+    }
 }

@@ -1,8 +1,7 @@
 -- Inside a section, with none of it left.
-use mathlib.Core.Path.{sym, ap, _∙_}
-use lib.Dec.{eqb}
+use mathlib.Core.Path.{sym, _∙_}
+use native.Mathlib.Omega.{arith}
 use borrow.Author.Tests.{not-true, not-false}
-use Rattle.state.specs.declared.SectionLeft.{SectionLeft}
 use Rattle.step.proofs.Lending.{inside-lent, section-left-lent}
 use Rattle.step.proofs.Parts.{spent-outside, spent-in}
 use borrow.Author.Needs.{needs}
@@ -29,7 +28,7 @@ returns-2 c = λ p R.
     let i = d .before .before .before .before .before .before .before .before .before .before .before in
     let b = i .before in
     let inside = sym (inside-lent p _ _ R _ _ _ _ (b .before .task-of .ensures) (b .in-section .ensures)) ∙ not-false (b .in-section .result) (i .if1 .left) in
-    ap (λ (q : SectionLeft). eqb (q .0) 0) (d .section-left .ensures ∙ section-left-lent p _ _ R _ _) ∙ sym (spent-in p _ _ inside)
+    spent-in p _ _ (d .section-left .result) _ inside (d .section-left .ensures ∙ section-left-lent p _ _ R _ _) (omega arith)
 
 pub is-spent-spec : {M : Type 1} → statement M
 is-spent-spec =

@@ -46,7 +46,7 @@ loop-less c = omega arith
 loop-again : tie.Need-loop-again Inv-loop μ-loop
 loop-again c =
     let l = c .before .before .loop in
-    ⊎-elim (λ w. filled-stored _ _ _ _ _ (l .inv) (c .before .loop-test .taken) _ (w .0 .taken) (w .1)) (λ w. filled-passed _ _ _ _ _ (l .inv) (c .before .loop-test .taken) _ (w .0 .left) (w .1)) (c .if1 .came)
+    ⊎-elim (λ w. filled-stored _ _ _ _ _ (l .inv) (c .before .loop-test .taken) _ (omega (arith, w .0 .taken)) (w .1)) (λ w. filled-passed _ _ _ _ _ (l .inv) (c .before .loop-test .taken) _ (omega (arith, w .0 .left)) (w .1)) (c .if1 .came)
 
 returns : tie.Need-returns Inv-loop μ-loop
 returns c = filled-all _ _ _ _ _ (c .before .loop .inv) (c .loop-test .left)

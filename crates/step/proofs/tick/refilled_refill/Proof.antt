@@ -58,7 +58,7 @@ loop-again c =
     let h : l .c < length (l .next) = omega arith in (
       omega arith,
       search needs,
-      filled-next _ 0 (l .next) _ _ h (⊎-elim (λ w. refill-now (a .t2) (a .t1) (l .c) _ (w .0 .taken) (w .1)) (λ w. refill-later (a .t2) (a .t1) (l .c) _ (w .0 .left) (w .1)) (c .if1 .came)) (l .inv .2),
+      filled-next _ 0 (l .next) _ _ h (⊎-elim (λ w. refill-now (a .t2) (a .t1) (l .c) _ (omega (arith, w .0 .taken)) (w .1)) (λ w. refill-later (a .t2) (a .t1) (l .c) _ (omega (arith, w .0 .left)) (w .1)) (c .if1 .came)) (l .inv .2),
     )
 
 returns : tie.Need-returns Inv-loop μ-loop

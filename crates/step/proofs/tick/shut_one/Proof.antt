@@ -1,5 +1,6 @@
 -- The parts are those of the definition.
 use mathlib.Core.Path.{_∙_}
+use native.Mathlib.Omega.{arith}
 use Rattle.step.proofs.Lending.{owner-lent}
 use Rattle.step.proofs.Parts.{shut-is}
 use borrow.Author.Needs.{needs}
@@ -23,7 +24,7 @@ returns c = λ p R h l.
     let w = c .before in
     let o = w .before in
     let e = o .before .before .before .before in
-    shut-is p _ _ _ _ _ _ (e .ended-task .ensures) (o .byte-at .ensures ∙ owner-lent p _ _ R _) (w .with-used .ensures) (c .with-ended .ensures h l)
+    shut-is p _ _ _ _ _ _ _ (e .ended-task .ensures) (o .byte-at .ensures ∙ owner-lent p _ _ R _) (omega arith) (w .with-used .ensures) (c .with-ended .ensures h l)
 
 pub shut-one-spec : {M : Type 1} → statement M
 shut-one-spec =

@@ -1,5 +1,6 @@
 -- What (a) leaves is legal with nothing used up, so that (b) and (c) have room.
 use mathlib.Core.Path.{_∙_}
+use native.Mathlib.Omega.{arith}
 use Rattle.choice.proofs.Held.{runs-lent}
 use Rattle.step.proofs.Lending.{own-lengths}
 use Rattle.step.proofs.Settling.{lent-kept}
@@ -21,7 +22,7 @@ returns : tie.Need-returns
 returns c = λ p L.
     let i = c .before .before in
     let T = i .before .before .before .settle .ensures p L in
-    ticked-idle p _ (L .accepted) (lent-kept p _ _ _ L) _ T (i .if1 .taken) _ _ (c .before .tick-answer .ensures) (c .refilled .ensures p (own-lengths p _ _ (L .rows-of)))
+    ticked-idle p _ (L .accepted) (lent-kept p _ _ _ L) _ T (omega (arith, i .if1 .taken)) _ _ (c .before .tick-answer .ensures) (c .refilled .ensures p (own-lengths p _ _ (L .rows-of)))
 
 given-waited-requires : tie.Need-given-waited-requires
 given-waited-requires c κs = search needs
@@ -54,7 +55,7 @@ returns-2 c = λ p L.
     let R = own-lengths p _ _ (L .rows-of) in
     let T = i .before .before .before .settle .ensures p L in
     let given = g .given-waited .ensures p (L .rows-of) (waited-room p _ A S _ T) in
-    ticked-in p _ A S _ T (i .if1 .left) _ _ _ _ _ _ given (k .runs .ensures ∙ runs-lent p _ _) (q .charged .ensures)
+    ticked-in p _ A S _ T (λ e. absurd (omega (arith, e, i .if1 .left))) _ _ _ _ _ _ given (k .runs .ensures ∙ runs-lent p _ _) (q .charged .ensures)
     (r .ran .ensures p R (used-room p _ A S _ T _ given _ (q .charged .ensures) _)) (a .tick-answer2 .ensures) (c .refilled2 .ensures p R)
 
 pub tick-spec : {M : Type 1} → statement M

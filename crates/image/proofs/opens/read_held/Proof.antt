@@ -1,0 +1,74 @@
+-- The loop's invariant: the entries passed are the bytes at their places.
+use native.Mathlib.Omega.{arith}
+use borrow.Author.Needs.{needs}
+use mathlib.Core.Path.{_≡_, refl}
+use Prim.Native.Nat.{ℕ, _+_, _/_, _%_, _-_, _≤_, _<_}
+use lib.ListN.{length, getD, length-set}
+use borrow.Author.Count.{below-none}
+use Rattle.below.proofs.Listed.{filled-next, filled-ended}
+use Rattle.image.specs.Words.{byteAt}
+use Rattle.image.specs.Image.{taskByteAt}
+use Rattle.image.proofs.opens.read_held.Statement.{statement}
+use Rattle.image.proofs.opens.read_held.Tie as tie
+
+abbrev Inv-loop : tie.InvT-loop
+Inv-loop b out₀ i₀ out i = (i ≤ length out₀) × (length out ≡ length out₀) × ((j : ℕ) → j < i → getD out j 0 ≡ byteAt b (taskByteAt (j / 4) (3 + j % 4)))
+
+abbrev μ-loop : tie.MeasureT-loop
+μ-loop b out₀ i₀ out i = length out₀ - i
+
+loop-holds : tie.Need-loop-holds Inv-loop μ-loop
+loop-holds c = (search needs, refl, below-none _)
+
+mul-out : tie.Need-mul-out Inv-loop μ-loop
+mul-out c = omega arith
+
+add-out : tie.Need-add-out Inv-loop μ-loop
+add-out c = omega arith
+
+add-out-2 : tie.Need-add-out-2 Inv-loop μ-loop
+add-out-2 c = omega arith
+
+add-out-3 : tie.Need-add-out-3 Inv-loop μ-loop
+add-out-3 c = omega arith
+
+shared-slice-read-out : tie.Need-shared-slice-read-out Inv-loop μ-loop
+shared-slice-read-out c = omega arith
+
+slice-write-out : tie.Need-slice-write-out Inv-loop μ-loop
+slice-write-out c = omega arith
+
+add-i : tie.Need-add-i Inv-loop μ-loop
+add-i c = omega arith
+
+loop-less : tie.Need-loop-less Inv-loop μ-loop
+loop-less c = omega arith
+
+loop-again : tie.Need-loop-again Inv-loop μ-loop
+unfolding byteAt taskByteAt
+loop-again c = (omega arith, simp length-set (c .before .before .loop .inv .1), filled-next _ 0 (c .before .before .loop .out) _ _ (c .before .loop-test .taken) refl (c .before .before .loop .inv .2))
+
+same-length : tie.Need-same-length Inv-loop μ-loop
+same-length c = c .before .loop .inv .1
+
+returns : tie.Need-returns Inv-loop μ-loop
+returns c = filled-ended _ _ _ 0 (c .before .loop .out) (omega arith) (c .before .loop .inv .1) (c .before .loop .inv .2)
+
+pub read-held-spec : {M : Type 1} → statement M
+read-held-spec =
+    tie.close
+    (tie.spec
+    Inv-loop
+    μ-loop
+    loop-holds
+    mul-out
+    add-out
+    add-out-2
+    add-out-3
+    shared-slice-read-out
+    slice-write-out
+    add-i
+    loop-less
+    loop-again
+    same-length
+    returns)
