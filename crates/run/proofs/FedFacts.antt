@@ -1,26 +1,29 @@
 -- What is taken of a piece, as facts with names: how much, where the run stands then, what the buffer holds, and why it stopped where it did.
-use mathlib.Core.Path.{_≡_, refl, sym, ap, _∙_}
+use mathlib.Core.Path.{_≡_, refl, sym, ap, subst, _∙_}
 use mathlib.Core.Bool.{Bool, true, false}
 use mathlib.Core.List.{List, [], _++_}
 use Prim.Native.Nat.{ℕ, zero, suc, _+_, _≤_, _<_}
 use native.Mathlib.Nat.{add-zero, add-assoc}
 use native.Mathlib.Omega.{arith}
 use lib.Dec.{ltb}
-use lib.ListN.{length, take, drop, length-append, length-drop}
+use lib.ListN.{length, take, drop, length-append, length-drop, take-append-drop}
 use lib.Seq.{take-add, drop-drop}
 use borrow.Author.Tests.{ltb-true, ltb-false}
 use Rattle.below.proofs.Tests.{clash}
 use Rattle.text.specs.Lines.{lineFeed, until, lines}
 use Rattle.text.proofs.Parted.{whole}
 use Rattle.plan.specs.declared.Plan.{Plan}
+use Rattle.step.specs.declared.Rows.{Rows}
+use Rattle.step.specs.Lent.{Lent}
 use Rattle.line.specs.Filled.{hasRoom, outAfter}
+use Rattle.run.specs.declared.stream.Fed.{Fed}
 use Rattle.run.specs.Stream.{At, fed, fedPrinted}
-use Rattle.run.specs.Fed.{Taken, nothing, behind, linesTaken, pieceTaken, firstLine}
+use Rattle.run.specs.Fed.{Taken, atOf, takenOf, nothing, behind, linesTaken, pieceTaken, firstLine}
 use Rattle.run.proofs.KeptBytes.{take-length-take, none-of}
 use Rattle.run.proofs.Going.{fed-append, printed-append}
 use Rattle.run.proofs.TakenLines.{room-quiet, out-quiet}
 use Rattle.run.proofs.WholeLines.{printed-inside}
-use Rattle.run.proofs.FirstLines.{first-whole, first-some, first-within, lines-first}
+use Rattle.run.proofs.FirstLines.{first-whole, first-some, first-within, lines-first, fed-lent}
 use Rattle.run.proofs.LineLoop.{lines-room, lines-none}
 use Rattle.run.proofs.OutTwice.{room-twice, out-twice}
 
@@ -113,3 +116,26 @@ facts p (suc n) x piece out fill h =
 pub piece-facts : (p : Plan) (x : At) (piece out : List ℕ) (fill : ℕ) → FedFacts p x piece out fill (pieceTaken p x piece out fill)
 unfolding pieceTaken
 piece-facts p x piece out fill = facts p (length piece) x piece out fill (omega arith)
+
+-- what is left of the piece is fed on where it stopped, and prints the rest
+module _ (p : Plan) (x : At) (piece out : List ℕ) (fill : ℕ) where
+  abbrev t : Taken
+  t = pieceTaken p x piece out fill
+
+  pub fed-on : fed p x piece ≡ fed p (t .at) (drop (t .bytes) piece)
+  fed-on =
+      ap (fed p x) (sym (take-append-drop (t .bytes) piece))
+      ∙ fed-append p x (take (t .bytes) piece) (drop (t .bytes) piece)
+      ∙ ap (λ (y : At). fed p y (drop (t .bytes) piece)) (sym (piece-facts p x piece out fill .stands))
+
+  pub printed-on : fedPrinted p x piece ≡ fedPrinted p x (take (t .bytes) piece) ++ fedPrinted p (t .at) (drop (t .bytes) piece)
+  printed-on =
+      ap (fedPrinted p x) (sym (take-append-drop (t .bytes) piece))
+      ∙ printed-append p x (take (t .bytes) piece) (drop (t .bytes) piece)
+      ∙ ap (λ (y : At). fedPrinted p x (take (t .bytes) piece) ++ fedPrinted p y (drop (t .bytes) piece)) (sym (piece-facts p x piece out fill .stands))
+
+  -- a legal state stays legal: what came back may be fed again
+  pub piece-lent : (rows : Rows) (lengths : List ℕ) (r : Fed) (after : List ℕ) → takenOf r after ≡ t → Lent p (x .state) rows lengths → Lent p (r .stream .state) rows lengths
+  unfolding takenOf atOf
+  piece-lent rows lengths r after e L =
+      subst (λ (y : At). Lent p (y .state) rows lengths) (sym (ap (λ (u : Taken). u .at) e ∙ piece-facts p x piece out fill .stands)) (fed-lent p rows lengths x (take (t .bytes) piece) L)

@@ -19,3 +19,4 @@ pub mod OutTwice
 pub mod FedFacts
 pub mod PutLines
 pub mod Starting
+pub mod RunText

@@ -1,5 +1,5 @@
--- The loop over the lines of an event text: what one turn changes, and where it stops. And that the lines of a run, joined, are its printed text.
-use mathlib.Core.Path.{_≡_, refl, sym, ap, _∙_}
+-- The loop over the lines of an event text: what one turn changes, and where it stops. And that the lines of a run, as one text, are its printed text.
+use mathlib.Core.Path.{_≡_, refl, ap, _∙_}
 use mathlib.Core.Bool.{Bool, true, false}
 use mathlib.Core.List.{List, [], _∷_, _++_, append-nil}
 use Prim.Native.Nat.{ℕ, zero, suc, _+_, _-_, _≤_, _<_}
@@ -16,61 +16,32 @@ use Rattle.step.specs.declared.Outcome.{Outcome}
 use Rattle.step.specs.declared.Rows.{Rows}
 use Rattle.step.specs.Lent.{Lent}
 use Rattle.line.specs.Printed.{printed, printedRefusal}
-use Rattle.line.specs.declared.Filled.the-variants.{Fill, NoRoom}
-use Rattle.line.specs.Filled.{hasRoom, fillAfter, outAfter}
 use Rattle.line.specs.Run.{mostLines, lineGives, outcomes, printedFrom, printedRun, run}
 use Rattle.run.specs.declared.Lined.{Lined}
 use Rattle.run.specs.Lined.{lined, linedOut}
-use Rattle.run.specs.Stream.{At, joined}
+use Rattle.run.specs.AsFar.{inOne}
+use Rattle.run.specs.Stream.{At}
 use Rattle.run.specs.Fed.{firstLine}
-use Rattle.run.specs.Ran.{Put, linesPut, printedLines, runLines}
+use Rattle.run.specs.Running.{printedLines, runLines}
+use Rattle.run.proofs.AsFarLaws.{Leads, Ends, leads-start, leads-on, leads-out}
 use Rattle.run.proofs.KeptBytes.{take-length-take}
 use Rattle.run.proofs.LineSteps.{line-lent}
-use Rattle.run.proofs.TakenLines.{given, text, step-room, no-room, some-room, out-full}
+use Rattle.run.proofs.TakenLines.{given, text, step-room, some-room, says-none, says-room}
 use Rattle.run.proofs.FirstLines.{lines-first}
-
--- lines put, by the room of the first
-module _ (l : List ℕ) (ls : List (List ℕ)) (out : List ℕ) (fill : ℕ) where
-  pub put-room : hasRoom out fill l ≡ true → linesPut (l ∷ ls) out fill ≡ linesPut ls (outAfter out fill l) (fill + length l)
-  unfolding linesPut
-  put-room e = rw (linesPut, e)
-
-  pub put-none : hasRoom out fill l ≡ false → linesPut (l ∷ ls) out fill ≡ record { number = 33; fill = fill; out = out }
-  unfolding linesPut
-  put-none e = rw (linesPut, e)
-
-  -- one line, by what a writer gave back
-  module _ {after : List ℕ} (f : after ≡ outAfter out fill l) (last : ls ≡ []) where
-    pub one-room : {m : ℕ} → Fill m ≡ fillAfter out fill l → _≡_ {A = Put} (record { number = 0; fill = m; out = after }) (linesPut (l ∷ ls) out fill)
-    unfolding linesPut fillAfter
-    one-room {m} e = rw last (go (hasRoom out fill l) e)
-      where
-        go : (b : Bool) → Fill m ≡ elim b [ true ↦ Fill (fill + length l) | false ↦ NoRoom ]
-            → _≡_ {A = Put} (record { number = 0; fill = m; out = after })
-            (elim b [
-              | true ↦ record { number = 0; fill = fill + length l; out = outAfter out fill l }
-              | false ↦ record { number = 33; fill = fill; out = out }
-            ])
-        go true t = let k : m ≡ fill + length l = cc in rw (k, f)
-        go false t = let z : _≡_ {A = ℕ} 0 1 = cc in absurd (omega arith)
-
-    pub one-none : NoRoom ≡ fillAfter out fill l → _≡_ {A = Put} (record { number = 33; fill = fill; out = after }) (linesPut (l ∷ ls) out fill)
-    unfolding fillAfter
-    one-none e = go (hasRoom out fill l) refl e
-      where
-        go : (b : Bool) → hasRoom out fill l ≡ b → NoRoom ≡ elim b [ true ↦ Fill (fill + length l) | false ↦ NoRoom ]
-            → _≡_ {A = Put} (record { number = 33; fill = fill; out = after }) (linesPut (l ∷ ls) out fill)
-        go true r t = let z : _≡_ {A = ℕ} 0 1 = cc in absurd (omega arith)
-        go false r t = ap (λ (o : List ℕ). record { number = 33; fill = fill; out = o }) (f ∙ out-full out fill l r) ∙ sym (put-none r)
 
 -- the printed lines of an event text from line n on
 unfoldable pub linesLeft : Plan → State → ℕ → List ℕ → List (List ℕ)
 linesLeft p s n t = printedLines n (outcomes p s (take (suc mostLines - n) (lines t)))
 
 -- from the first line on
-pub left-start : (p : Plan) (s : State) (t out : List ℕ) (fill : ℕ) → linesPut (linesLeft p s 1 t) out fill ≡ linesPut (printedLines 1 (outcomes p s (take mostLines (lines t)))) out fill
+pub left-start : (p : Plan) (s : State) (t out : List ℕ) (fill : ℕ)
+    → let all = printedLines 1 (outcomes p s (take mostLines (lines t))) in
+    Leads (linesLeft p s 1 t) out fill all out fill
 unfolding linesLeft
-left-start p s t out fill = ap (λ (k : ℕ). linesPut (printedLines 1 (outcomes p s (take k (lines t)))) out fill) {x = suc mostLines - 1} {y = mostLines} (omega arith)
+left-start p s t out fill = rw e (leads-start _ out fill)
+  where
+    e : printedLines 1 (outcomes p s (take (suc mostLines - 1) (lines t))) ≡ printedLines 1 (outcomes p s (take mostLines (lines t)))
+    e = ap (λ (k : ℕ). printedLines 1 (outcomes p s (take k (lines t)))) {x = suc mostLines - 1} {y = mostLines} (omega arith)
 
 module _ (p : Plan) (s : State) (n : ℕ) where
   -- no bytes are left, or no more lines are answered
@@ -100,22 +71,20 @@ module _ (p : Plan) (s : State) (n : ℕ) where
     abbrev line : List ℕ
     line = firstLine (drop at t)
 
-    pub turn-room : (l .fill ≡ fill → ⊥) → linesPut (linesLeft p (l .state) (n + 1) (drop (at + length line) t)) after (l .fill) ≡ linesPut (linesLeft p s n (drop at t)) out fill
-    unfolding text given linedOut
-    turn-room h =
-        let r = some-room p x line out fill e h in
-        let k = e ∙ step-room p x line out fill r in
-        sym
-        (ap (λ ls. linesPut ls out fill) (left-next (drop at t) some g)
-        ∙ put-room (printed n (lineGives p s line)) _ out fill r
-        ∙ rw (k, f, drop-drop (length line) at t))
+    -- with room the lines behind it are left, without it the run ends here
+    module _ {all : List (List ℕ)} {out₀ : List ℕ} {fill₀ : ℕ} (w : Leads (linesLeft p s n (drop at t)) out fill all out₀ fill₀) where
+      next : Leads (printed n (lineGives p s line) ∷ linesLeft p (lineGives p s line .state) (n + 1) (drop (at + length line) t)) out fill all out₀ fill₀
+      next = rw (left-next (drop at t) some g, drop-drop (length line) at t) at w
 
-    pub turn-none : l .fill ≡ fill → _≡_ {A = Put} (record { number = 33; fill = fill; out = after }) (linesPut (linesLeft p s n (drop at t)) out fill)
-    unfolding text given linedOut
-    turn-none h =
-        let r = no-room p x line out fill e h in
-        ap (λ (o : List ℕ). record { number = 33; fill = fill; out = o }) (f ∙ out-full out fill (printed n (lineGives p s line)) r)
-        ∙ sym (ap (λ ls. linesPut ls out fill) (left-next (drop at t) some g) ∙ put-none (printed n (lineGives p s line)) _ out fill r)
+      pub turn-room : (l .fill ≡ fill → ⊥) → Leads (linesLeft p (l .state) (n + 1) (drop (at + length line) t)) after (l .fill) all out₀ fill₀
+      unfolding text given linedOut
+      turn-room h =
+          let k : l .state ≡ lineGives p s line .state = ap (λ y. y .state) (e ∙ step-room p x line out fill (some-room p x line out fill e h)) in
+          rw k (leads-on next (says-room p x line out fill e h) f)
+
+      pub turn-none : l .fill ≡ fill → Ends (record { fill = fill; whole = false }) after all out₀ fill₀
+      unfolding text given linedOut
+      turn-none h = leads-out next (says-none p x line out fill e h) f
 
     pub turn-legal : (rows : Rows) (lengths : List ℕ) → (l .fill ≡ fill → ⊥) → Lent p s rows lengths → Lent p (l .state) rows lengths
     unfolding given
@@ -127,18 +96,18 @@ unfolding firstLine
 first-lent t at end e =
     ap (λ (k : ℕ). take k (drop at t)) {x = end - at} {y = length (firstLine (drop at t))} (omega arith) ∙ take-length-take (until lineFeed (drop at t) + 1) (drop at t)
 
--- joined, the printed lines are the printed text
-joined-printed : (n : ℕ) (os : List Outcome) → joined (printedLines n os) ≡ printedFrom n os
-unfolding joined printedLines printedFrom
-joined-printed n [] = refl
-joined-printed n (o ∷ os) = ap (λ (t : List ℕ). printed n o ++ t) (joined-printed (n + 1) os)
+-- as one text, the printed lines are the printed text
+one-printed : (n : ℕ) (os : List Outcome) → inOne (printedLines n os) ≡ printedFrom n os
+unfolding inOne printedLines printedFrom
+one-printed n [] = refl
+one-printed n (o ∷ os) = ap (λ (t : List ℕ). printed n o ++ t) (one-printed (n + 1) os)
 
-pub lines-run : (plan events : List ℕ) → joined (runLines plan events) ≡ run plan events
-unfolding runLines run printedRun joined
+pub lines-run : (plan events : List ℕ) → inOne (runLines plan events) ≡ run plan events
+unfolding runLines run printedRun inOne
 lines-run plan events = go (isAccepted (reading plan .verdict))
   where
     go : (b : Bool)
-        → joined
+        → inOne
         (elim b [
           | true ↦ printedLines 1 (outcomes (reading plan .plan) (fresh (reading plan .plan)) (take mostLines (lines events)))
           | false ↦ printedRefusal (number (reading plan .verdict)) (beside (reading plan .verdict)) ∷ []
@@ -147,5 +116,5 @@ lines-run plan events = go (isAccepted (reading plan .verdict))
           | true ↦ printedRun (reading plan .plan) events
           | false ↦ printedRefusal (number (reading plan .verdict)) (beside (reading plan .verdict))
         ]
-    go true = joined-printed 1 _
+    go true = one-printed 1 _
     go false = append-nil _

@@ -86,6 +86,15 @@ module _ (p : Plan) (x : At) (line out : List ℕ) (fill : ℕ) {l : Lined} (e :
       go true t = t
       go false t = absurd (h (ap (λ y. y .fill) (e ∙ step-none p x line out fill t)))
 
+  -- the fill as the writer says it
+  pub says-none : l .fill ≡ fill → NoRoom ≡ fillAfter out fill (text p x line out fill)
+  unfolding fillAfter
+  says-none h = rw (fillAfter, no-room h)
+
+  pub says-room : (l .fill ≡ fill → ⊥) → Fill (l .fill) ≡ fillAfter out fill (text p x line out fill)
+  unfolding fillAfter
+  says-room h = rw (fillAfter, some-room h) (ap (λ y. Fill (y .fill)) (e ∙ step-room p x line out fill (some-room h)))
+
 -- a whole line: what is taken of it
 module _ (p : Plan) (x : At) (line : List ℕ) (size : ℕ) (out : List ℕ) (fill : ℕ) where
   abbrev pub Whole : Taken
@@ -115,14 +124,12 @@ module _ (p : Plan) (x : At) (line : List ℕ) (size : ℕ) (out : List ℕ) (fi
 
     -- the same of the end of the file
     pub end-none : l .fill ≡ fill → (NoRoom ≡ fillAfter out fill (linePrinted p (wholeLine x line))) × (after ≡ outAfter out fill (linePrinted p (wholeLine x line)))
-    unfolding isGoing wholeLine text given linedOut fillAfter
-    end-none h = rw (printed-going p (wholeLine x line) g) (rw (fillAfter, no-room p x line out fill e h), f)
+    unfolding isGoing wholeLine text given linedOut
+    end-none h = rw (printed-going p (wholeLine x line) g) (says-none p x line out fill e h, f)
 
     pub end-room : (l .fill ≡ fill → ⊥) → (Fill (l .fill) ≡ fillAfter out fill (linePrinted p (wholeLine x line))) × (after ≡ outAfter out fill (linePrinted p (wholeLine x line)))
-    unfolding isGoing wholeLine text given linedOut fillAfter
-    end-room h =
-        let r = some-room p x line out fill e h in
-        rw (printed-going p (wholeLine x line) g) (rw (fillAfter, r) (ap (λ y. Fill (y .fill)) (e ∙ step-room p x line out fill r)), f)
+    unfolding isGoing wholeLine text given linedOut
+    end-room h = rw (printed-going p (wholeLine x line) g) (says-room p x line out fill e h, f)
 
 -- the end of the file: nothing is kept, or no more lines are answered, or the kept bytes are the last line
 module _ (p : Plan) (x : At) where

@@ -1,4 +1,5 @@
 // "The run program": a whole run, from a plan text and an event text to the printed text, as far as the buffer goes.
+use crate::Ran;
 use crate::lines::line_step;
 use line::Filled;
 use line::print_refusal;
@@ -22,26 +23,20 @@ ghost use Rattle.reader.specs.Numbers.{number, beside};
 ghost use Rattle.step.specs.Lent.{Lent};
 ghost use Rattle.line.specs.Printed.{printedRefusal};
 ghost use Rattle.line.specs.Run.{mostLines, outcomes};
+ghost use Rattle.run.specs.AsFar.{asFar, asFarOut};
 ghost use Rattle.run.specs.Fed.{firstLine};
-ghost use Rattle.run.specs.Ran.{putOf, linesPut, printedLines, ranAsFar};
-
-// What a run gives: 0, or 33 where a printed line had no room, and the fill of the buffer up to there.
-pub struct Ran {
-    pub number: u8,
-    pub fill: usize,
-}
+ghost use Rattle.run.specs.Running.{printedLines, runLines};
 
 // A refused plan prints its refusal alone.
 fn put_refusal(v: Verdict, out: &mut [u8], fill: usize) -> Ran
-    ensures { λ r. ⌜ putOf r (now (out .exit)) ≡ linesPut (printedRefusal (number v) (beside v) ∷ []) (now (out .entry)) fill ⌝ }
+    ensures { λ r. ⌜ (r ≡ asFar (printedRefusal (number v) (beside v) ∷ []) (now (out .entry)) fill) × (now (out .exit) ≡ asFarOut (printedRefusal (number v) (beside v) ∷ []) (now (out .entry)) fill) ⌝ }
 {
-    let filled = print_refusal(out, fill, number(v), beside(v));
-    match filled {
-        Filled::Fill(end) => Ran {
-            number: 0,
-            fill: end,
-        },
-        Filled::NoRoom => Ran { number: 33, fill },
+    let Filled::Fill(end) = print_refusal(out, fill, number(v), beside(v)) else {
+        return Ran { fill, whole: false };
+    };
+    Ran {
+        fill: end,
+        whole: true,
     }
 }
 
@@ -65,7 +60,8 @@ fn run_lines(
     fill: usize,
 ) -> Ran
     ensures { λ r. ⌜ ((p : Plan) → Lent p s rows (now (lengths .entry))
-        → putOf r (now (out .exit)) ≡ linesPut (printedLines 1 (outcomes p s (take mostLines (lines (now (events .entry)))))) (now (out .entry)) fill) ⌝ }
+        → (r ≡ asFar (printedLines 1 (outcomes p s (take mostLines (lines (now (events .entry)))))) (now (out .entry)) fill)
+        × (now (out .exit) ≡ asFarOut (printedLines 1 (outcomes p s (take mostLines (lines (now (events .entry)))))) (now (out .entry)) fill)) ⌝ }
 {
     let mut state = s;
     let mut number: u32 = 1;
@@ -74,16 +70,16 @@ fn run_lines(
     while at < events.len() {
         if 9999999 < number {
             return Ran {
-                number: 0,
                 fill: filled,
+                whole: true,
             };
         }
         let end = line_end(events, at);
         let l = line_step(rows, lengths, state, number, &events[at..end], out, filled);
         if l.fill == filled {
             return Ran {
-                number: 33,
                 fill: filled,
+                whole: false,
             };
         }
         let next = l.state;
@@ -93,14 +89,15 @@ fn run_lines(
         at = end;
     }
     Ran {
-        number: 0,
         fill: filled,
+        whole: true,
     }
 }
 
 // A whole run: a refused plan prints its refusal, an accepted one runs from its fresh state.
 pub fn run(plan: &[u8], events: &[u8], out: &mut [u8], fill: usize) -> Ran
-    ensures { λ r. ⌜ putOf r (now (out .exit)) ≡ ranAsFar (now (plan .entry)) (now (events .entry)) (now (out .entry)) fill ⌝ }
+    ensures { λ r. ⌜ (r ≡ asFar (runLines (now (plan .entry)) (now (events .entry))) (now (out .entry)) fill)
+        × (now (out .exit) ≡ asFarOut (runLines (now (plan .entry)) (now (events .entry))) (now (out .entry)) fill) ⌝ }
 {
     let r = read(plan);
     let v = r.verdict;

@@ -1,6 +1,6 @@
 -- `run::whole::run_lines` meets its contract. The loop's invariant: the lines that are left, put from here, give what all of them give; the state is
 -- legal, and the buffer keeps its length. The measure is what is left of the text.
-use mathlib.Core.Path.{_≡_, refl, _∙_}
+use mathlib.Core.Path.{_≡_, refl}
 use Prim.Native.Nat.{_-_, _≤_}
 use native.Mathlib.Omega.{arith}
 use lib.ListN.{length, take, drop, length-drop}
@@ -11,7 +11,8 @@ use Rattle.step.specs.Lent.{Lent}
 use Rattle.line.specs.Run.{mostLines, outcomes}
 use Rattle.run.specs.Lined.{lined, linedOut}
 use Rattle.run.specs.Fed.{firstLine}
-use Rattle.run.specs.Ran.{putOf, linesPut, printedLines}
+use Rattle.run.specs.Running.{printedLines}
+use Rattle.run.proofs.AsFarLaws.{Leads, leads-end}
 use Rattle.run.proofs.FirstLines.{first-some, first-within}
 use Rattle.run.proofs.PutLines.{linesLeft, left-start, left-end, left-over, turn-room, turn-none, turn-legal, first-lent}
 use Rattle.run.proofs.whole.run_lines.Statement.{statement}
@@ -23,7 +24,7 @@ Inv-loop rows lengths events out₀ fill state₀ number₀ at₀ filled₀ out 
     × (length out ≡ length out₀)
     × ((p : Plan) → Lent p state₀ rows lengths
     → Lent p state rows lengths
-    × (linesPut (linesLeft p state number (drop at events)) out filled ≡ linesPut (printedLines 1 (outcomes p state₀ (take mostLines (lines events)))) out₀ fill))
+    × Leads (linesLeft p state number (drop at events)) out filled (printedLines 1 (outcomes p state₀ (take mostLines (lines events)))) out₀ fill)
 
 abbrev μ-loop : tie.MeasureT-loop
 μ-loop rows lengths events out₀ fill state₀ number₀ at₀ filled₀ out state number at filled = length events - at
@@ -37,10 +38,9 @@ same-length : tie.Need-same-length Inv-loop μ-loop
 same-length c = c .before .before .loop .inv .1
 
 returns : tie.Need-returns Inv-loop μ-loop
-unfolding putOf linesPut
 returns c =
     let l = c .before .before .loop in
-    λ p h. rw (left-over p (l .state) (l .number) (drop (l .at) (c .before .before .before .before .before .before .args .events .now)) (c .if1 .taken)) at (l .inv .2 p h .1)
+    λ p h. leads-end (rw (left-over p (l .state) (l .number) (drop (l .at) (c .before .before .before .before .before .before .args .events .now)) (c .if1 .taken)) at (l .inv .2 p h .1))
 
 line-end-requires : tie.Need-line-end-requires Inv-loop μ-loop
 line-end-requires c κs = c .before .loop-test .taken
@@ -76,15 +76,13 @@ part-line-step-end : tie.Need-part-line-step-end Inv-loop μ-loop
 part-line-step-end c = within c
 
 returns-2 : tie.Need-returns-2 Inv-loop μ-loop
-unfolding putOf
 returns-2 c =
     let q = c .before .before .before .before in
     let l = q .before .before .before .before .before .before .loop in
     let a = q .before .before .before .before .before .before .before .before .before .before .args in
     λ p h.
     let e = turn q p h in
-    turn-none p (l .state) (l .number) (a .events .now) (l .at) (l .out) (l .filled) (some (q .before .before .before)) (q .before .before .before .before .if1 .left) (e .0) (e .1) (c .if2 .taken)
-    ∙ l .inv .2 p h .1
+    turn-none p (l .state) (l .number) (a .events .now) (l .at) (l .out) (l .filled) (some (q .before .before .before)) (q .before .before .before .before .if1 .left) (e .0) (e .1) (l .inv .2 p h .1) (c .if2 .taken)
 
 add-number : tie.Need-add-number Inv-loop μ-loop
 add-number c = omega (arith, c .before .before .before .before .before .before .before .before .before .if1 .left)
@@ -105,8 +103,7 @@ loop-again c =
           let e = turn q p h in (
             turn-legal p (l .state) (l .number) (a .events .now) (l .at) (l .out) (l .filled) (some (q .before .before .before)) (q .before .before .before .before .if1 .left) (e .0) (e .1) (a .rows) (a .lengths .now) (c .before .if2 .left) (l .inv .2 p h .0),
             rw (q .before .before .before .line-end .ensures)
-                (turn-room p (l .state) (l .number) (a .events .now) (l .at) (l .out) (l .filled) (some (q .before .before .before)) (q .before .before .before .before .if1 .left) (e .0) (e .1) (c .before .if2 .left))
-                ∙ l .inv .2 p h .1,
+                (turn-room p (l .state) (l .number) (a .events .now) (l .at) (l .out) (l .filled) (some (q .before .before .before)) (q .before .before .before .before .if1 .left) (e .0) (e .1) (l .inv .2 p h .1) (c .before .if2 .left)),
           ),
     )
 
@@ -114,10 +111,9 @@ same-length-3 : tie.Need-same-length-3 Inv-loop μ-loop
 same-length-3 c = c .before .loop .inv .1
 
 returns-3 : tie.Need-returns-3 Inv-loop μ-loop
-unfolding putOf linesPut
 returns-3 c =
     let l = c .before .loop in
-    λ p h. rw (left-end p (l .state) (l .number) (c .before .before .before .before .before .args .events .now) (l .at) (c .loop-test .left)) at (l .inv .2 p h .1)
+    λ p h. leads-end (rw (left-end p (l .state) (l .number) (c .before .before .before .before .before .args .events .now) (l .at) (c .loop-test .left)) at (l .inv .2 p h .1))
 
 pub run-lines-spec : {M : Type 1} → statement M
 run-lines-spec =
