@@ -75,7 +75,8 @@ fn run_lines(
             };
         }
         let end = line_end(events, at);
-        let l = line_step(rows, lengths, state, number, &events[at..end], out, filled);
+        let line = &events[at..end];
+        let l = line_step(rows, lengths, state, number, line, out, filled);
         if l.fill == filled {
             return Ran {
                 fill: filled,

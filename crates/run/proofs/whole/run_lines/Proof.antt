@@ -66,14 +66,14 @@ turn c p h =
     let a = c .before .before .before .before .before .before .before .before .before .before .args in
     rw (first-lent (a .events .now) (l .at) _ (c .before .before .before .line-end .ensures)) at (c .line-step .ensures .1 p (l .inv .2 p h .0))
 
-sub-line-step : tie.Need-sub-line-step Inv-loop μ-loop
-sub-line-step c = omega (arith, c .line-end .ensures)
+sub-line : tie.Need-sub-line Inv-loop μ-loop
+sub-line c = omega (arith, c .line-end .ensures)
 
-part-line-step-start : tie.Need-part-line-step-start Inv-loop μ-loop
-part-line-step-start c = omega (arith, c .line-end .ensures)
+part-line-start : tie.Need-part-line-start Inv-loop μ-loop
+part-line-start c = omega (arith, c .line-end .ensures)
 
-part-line-step-end : tie.Need-part-line-step-end Inv-loop μ-loop
-part-line-step-end c = within c
+part-line-end : tie.Need-part-line-end Inv-loop μ-loop
+part-line-end c = within c
 
 returns-2 : tie.Need-returns-2 Inv-loop μ-loop
 returns-2 c =
@@ -125,9 +125,9 @@ run-lines-spec =
     same-length
     returns
     line-end-requires
-    sub-line-step
-    part-line-step-start
-    part-line-step-end
+    sub-line
+    part-line-start
+    part-line-end
     (λ c κs. search needs)
     (λ c. search needs)
     returns-2
