@@ -14,7 +14,7 @@ unfolding takenOf atOf isGoing lineStart
 returns c =
     let a = c .before .before .before .before .before .before .args in (
       record { taken = omega arith; filled = λ h. h },
-      λ p l. rw (c .at-line .ensures) (sym (answer-over p (atOf (a .s)) (a .line .now) (a .size) (a .out .now) (a .fill) (lt-leb (a .s .number) 9999999 (c .before .if1 .taken)))),
+      λ p l. rw (c .at-line .ensures) (sym (answer-over p (atOf (a .s)) (a .line .now) (a .size) (a .out .now) (a .fill) (lt-leb (a .s .number) 9999999 (omega (arith, c .before .if1 .taken))))),
     )
 
 returns-2 : tie.Need-returns-2
@@ -25,7 +25,7 @@ returns-2 c =
       record { taken = omega arith; filled = λ h. h },
       λ p l.
           let e = q .line-step .ensures .1 p l in
-          answer-none p (atOf (a .s)) (a .line .now) (a .size) (a .out .now) (a .fill) (le-leb (a .s .number) 9999999 (q .before .before .if1 .left)) (e .0) (e .1) (c .if2 .taken),
+          answer-none p (atOf (a .s)) (a .line .now) (a .size) (a .out .now) (a .fill) (le-leb (a .s .number) 9999999 (omega (arith, q .before .before .if1 .left))) (e .0) (e .1) (c .if2 .taken),
     )
 
 returns-3 : tie.Need-returns-3
@@ -37,7 +37,7 @@ returns-3 c =
       λ p l.
           let e = q .line-step .ensures .1 p l in
           rw (c .at-line2 .ensures)
-          (answer-room p (atOf (a .s)) (a .line .now) (a .size) (a .out .now) (a .fill) (le-leb (a .s .number) 9999999 (q .before .before .if1 .left)) (e .0) (e .1) (c .before .before .if2 .left)),
+          (answer-room p (atOf (a .s)) (a .line .now) (a .size) (a .out .now) (a .fill) (le-leb (a .s .number) 9999999 (omega (arith, q .before .before .if1 .left))) (e .0) (e .1) (c .before .before .if2 .left)),
     )
 
 pub answer-spec : {M : Type 1} → statement M

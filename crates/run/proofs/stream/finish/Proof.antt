@@ -30,7 +30,7 @@ returns-2 c =
     let a = c .before .before .before .before .before .before .args in (
       λ n q h. let k : a .fill ≡ n = cc in omega arith,
       λ p l.
-          rw (end-over p (atOf (a .s)) (lt-leb (a .s .number) 9999999 (c .if2 .taken)), fill-quiet (a .out .now) (a .fill), out-quiet (a .out .now) (a .fill)) (search needs),
+          rw (end-over p (atOf (a .s)) (lt-leb (a .s .number) 9999999 (omega (arith, c .if2 .taken))), fill-quiet (a .out .now) (a .fill), out-quiet (a .out .now) (a .fill)) (search needs),
     )
 
 -- what is kept lies within its bytes
@@ -64,7 +64,7 @@ returns-3 c =
       λ p l.
           let e = q .line-step .ensures .1 p l in
           rw (last n (q .before .before .before .before .before .before .if1 .left) p)
-          (end-none p (atOf (a .s)) _ 0 (a .out .now) (a .fill) (le-leb (a .s .number) 9999999 (q .before .before .before .before .before .if2 .left)) (e .0) (e .1) (c .if3 .taken)),
+          (end-none p (atOf (a .s)) _ 0 (a .out .now) (a .fill) (le-leb (a .s .number) 9999999 (omega (arith, q .before .before .before .before .before .if2 .left))) (e .0) (e .1) (c .if3 .taken)),
     )
 
 returns-4 : tie.Need-returns-4
@@ -77,7 +77,7 @@ returns-4 c =
       λ p l.
           let e = q .line-step .ensures .1 p l in
           rw (last n (q .before .before .before .before .before .before .if1 .left) p)
-          (end-room p (atOf (a .s)) _ 0 (a .out .now) (a .fill) (le-leb (a .s .number) 9999999 (q .before .before .before .before .before .if2 .left)) (e .0) (e .1) (c .if3 .left)),
+          (end-room p (atOf (a .s)) _ 0 (a .out .now) (a .fill) (le-leb (a .s .number) 9999999 (omega (arith, q .before .before .before .before .before .if2 .left))) (e .0) (e .1) (c .if3 .left)),
     )
 
 pub finish-spec : {M : Type 1} → statement M

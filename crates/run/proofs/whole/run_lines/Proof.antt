@@ -40,7 +40,7 @@ same-length c = c .before .before .loop .inv .1
 returns : tie.Need-returns Inv-loop μ-loop
 returns c =
     let l = c .before .before .loop in
-    λ p h. leads-end (rw (left-over p (l .state) (l .number) (drop (l .at) (c .before .before .before .before .before .before .args .events .now)) (c .if1 .taken)) at (l .inv .2 p h .1))
+    λ p h. leads-end (rw (left-over p (l .state) (l .number) (drop (l .at) (c .before .before .before .before .before .before .args .events .now)) (omega (arith, c .if1 .taken))) at (l .inv .2 p h .1))
 
 line-end-requires : tie.Need-line-end-requires Inv-loop μ-loop
 line-end-requires c κs = c .before .loop-test .taken
@@ -82,7 +82,7 @@ returns-2 c =
     let a = q .before .before .before .before .before .before .before .before .before .before .args in
     λ p h.
     let e = turn q p h in
-    turn-none p (l .state) (l .number) (a .events .now) (l .at) (l .out) (l .filled) (some (q .before .before .before)) (q .before .before .before .before .if1 .left) (e .0) (e .1) (l .inv .2 p h .1) (c .if2 .taken)
+    turn-none p (l .state) (l .number) (a .events .now) (l .at) (l .out) (l .filled) (some (q .before .before .before)) (omega (arith, q .before .before .before .before .if1 .left)) (e .0) (e .1) (l .inv .2 p h .1) (c .if2 .taken)
 
 add-number : tie.Need-add-number Inv-loop μ-loop
 add-number c = omega (arith, c .before .before .before .before .before .before .before .before .before .if1 .left)
@@ -101,9 +101,9 @@ loop-again c =
       search needs,
       λ p h.
           let e = turn q p h in (
-            turn-legal p (l .state) (l .number) (a .events .now) (l .at) (l .out) (l .filled) (some (q .before .before .before)) (q .before .before .before .before .if1 .left) (e .0) (e .1) (a .rows) (a .lengths .now) (c .before .if2 .left) (l .inv .2 p h .0),
+            turn-legal p (l .state) (l .number) (a .events .now) (l .at) (l .out) (l .filled) (some (q .before .before .before)) (omega (arith, q .before .before .before .before .if1 .left)) (e .0) (e .1) (a .rows) (a .lengths .now) (c .before .if2 .left) (l .inv .2 p h .0),
             rw (q .before .before .before .line-end .ensures)
-                (turn-room p (l .state) (l .number) (a .events .now) (l .at) (l .out) (l .filled) (some (q .before .before .before)) (q .before .before .before .before .if1 .left) (e .0) (e .1) (l .inv .2 p h .1) (c .before .if2 .left)),
+                (turn-room p (l .state) (l .number) (a .events .now) (l .at) (l .out) (l .filled) (some (q .before .before .before)) (omega (arith, q .before .before .before .before .if1 .left)) (e .0) (e .1) (l .inv .2 p h .1) (c .before .if2 .left)),
           ),
     )
 
