@@ -5,42 +5,9 @@ ghost use Prim.Native.Nat.{_≤_};
 ghost use lib.ListN.{length, take};
 ghost use Rattle.io.specs.Counts.{Counts};
 ghost use Rattle.line.specs.Report.{report};
+use files::read_file;
+use files::write_out;
 use libc::STDERR_FILENO;
-use libc::STDOUT_FILENO;
-
-// How many bytes stand at the start of the buffer, and whether a read failed.
-struct Got {
-    count: usize,
-    is_failed: bool,
-}
-
-// Reads until the buffer is full, the file ends or a read fails. io::read_full does not tell the last two apart.
-fn read_file(fd: i32, buf: &mut [u8]) -> Got
-    ensures { λ r. ⌜ Counts (r .count) (now (buf .exit)) ⌝ }
-{
-    let mut at: usize = 0;
-    while at < buf.len() {
-        let got = libc::read(fd, &mut buf[at..]);
-        if got < 0 {
-            return Got {
-                count: at,
-                is_failed: true,
-            };
-        }
-        let n = io::count(got, &buf[at..]);
-        if n == 0 {
-            return Got {
-                count: at,
-                is_failed: false,
-            };
-        }
-        at += n;
-    }
-    Got {
-        count: at,
-        is_failed: false,
-    }
-}
 
 // "Admission": the report of a text at the start of the buffer, and its length. Any report has room there.
 fn report_of(text: &[u8], out: &mut [u8]) -> usize
@@ -55,10 +22,7 @@ fn report_of(text: &[u8], out: &mut [u8]) -> usize
 fn print_report(text: &[u8]) {
     let mut out = [0u8; 1024];
     let n = report_of(text, &mut out);
-    let is_written = io::write_all(STDOUT_FILENO, &out[..n]);
-    if !is_written {
-        os::fail(b"write");
-    }
+    write_out(&out[..n]);
 }
 
 // "Admission", 20: a longer file is refused for its length, so no more than 16,385 bytes are read.

@@ -1,11 +1,11 @@
--- `margins::read_file` meets its contract. The loop's invariant: what is read lies within the buffer, whose length stays. Each turn reads a byte at least.
+-- `files::read_file` meets its contract. The loop's invariant: what is read lies within the buffer, whose length stays. Each turn reads a byte at least.
 use mathlib.Core.Path.{_≡_}
 use Prim.Native.Nat.{_≤_, _-_}
 use lib.ListN.{length}
 use borrow.Author.Needs.{needs}
-use Rattle.margins.proofs.Counting.{counts}
-use Rattle.margins.proofs.read_file.Statement.{statement}
-use Rattle.margins.proofs.read_file.Tie as tie
+use Rattle.files.proofs.Counting.{counts}
+use Rattle.files.proofs.read_file.Statement.{statement}
+use Rattle.files.proofs.read_file.Tie as tie
 
 abbrev Inv-loop : tie.InvT-loop
 Inv-loop fd buf₀ at₀ buf at = (at ≤ length buf) × (length buf ≡ length buf₀)

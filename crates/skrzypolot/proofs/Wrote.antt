@@ -1,0 +1,111 @@
+-- A text that has room in the buffer: where the run stands behind it, and what the buffer holds up to the fill.
+use mathlib.Core.Path.{_≡_, refl, sym, ap, subst, _∙_}
+use mathlib.Core.Bool.{Bool, true, false}
+use mathlib.Core.List.{List, [], _∷_, _++_, append-assoc, append-nil}
+use Prim.Native.Nat.{ℕ, _+_, _≤_}
+use native.Mathlib.Omega.{arith}
+use lib.Dec.{eqb}
+use lib.ListN.{length, take, drop, length-append, length-take, length-drop}
+use lib.Seq.{take-at}
+use borrow.Author.Tests.{le-leb}
+use Rattle.text.specs.Lines.{lineFeed, onto, lines}
+use Rattle.plan.specs.declared.Plan.{Plan}
+use Rattle.line.specs.Filled.{hasRoom, outAfter}
+use Rattle.line.proofs.Room as room
+use Rattle.run.specs.Stream.{At, fed, fedPrinted, joined}
+use Rattle.run.specs.Fed.{Taken, nothing, behind, linesTaken, pieceTaken}
+use Rattle.run.proofs.Going.{fed-append, printed-append}
+
+-- a text that has room, behind the fill
+module _ (out : List ℕ) (fill : ℕ) (t : List ℕ) (h : fill + length t ≤ length out) where
+  after : outAfter out fill t ≡ (take fill out ++ t) ++ drop (fill + length t) out
+  after = room.out-room out fill t (rw length-drop (omega arith)) ∙ sym (append-assoc (take fill out) t _)
+
+  front-length : length (take fill out ++ t) ≡ fill + length t
+  front-length = simp (length-append, length-take) (omega arith)
+
+  has-room : hasRoom out fill t ≡ true
+  unfolding hasRoom
+  has-room = le-leb (length t) (length (drop fill out)) (rw length-drop (omega arith))
+
+  after-length : length (outAfter out fill t) ≡ length out
+  after-length = rw after (simp (length-append, length-take, length-drop) (omega arith))
+
+  pub after-take : take (fill + length t) (outAfter out fill t) ≡ take fill out ++ t
+  after-take = rw after (take-at (take fill out ++ t) _ _ front-length)
+
+-- all of a text was taken
+pub record Wrote (p : Plan) (x : At) (t out : List ℕ) (fill : ℕ) (w : Taken) : Type 0 where
+  pub stands : w .at ≡ fed p x t
+  pub filled : w .fill ≡ fill + length (fedPrinted p x t)
+  pub long : length (w .out) ≡ length out
+  pub front : take (w .fill) (w .out) ≡ take fill out ++ fedPrinted p x t
+
+-- one line and those behind it
+module _ (p : Plan) (x : At) (l : List ℕ) (ls : List (List ℕ)) (out : List ℕ) (fill : ℕ) where
+  abbrev first : List ℕ
+  first = fedPrinted p x l
+
+  abbrev rest : List ℕ
+  rest = fedPrinted p (fed p x l) (joined ls)
+
+  abbrev Behind : Taken
+  Behind = linesTaken p (fed p x l) ls (outAfter out fill first) (fill + length first)
+
+  both : fedPrinted p x (l ++ joined ls) ≡ first ++ rest
+  both = printed-append p x l (joined ls)
+
+  both-long : length (fedPrinted p x (l ++ joined ls)) ≡ length first + length rest
+  both-long = ap length both ∙ length-append first rest
+
+  next : hasRoom out fill first ≡ true → linesTaken p x (l ∷ ls) out fill ≡ behind (length l) Behind
+  unfolding linesTaken
+  next e = rw (linesTaken, e)
+
+  line-wrote : fill + length first ≤ length out → Wrote p (fed p x l) (joined ls) (outAfter out fill first) (fill + length first) Behind
+      → Wrote p x (l ++ joined ls) out fill (linesTaken p x (l ∷ ls) out fill)
+  unfolding behind
+  line-wrote h w =
+      subst (Wrote p x (l ++ joined ls) out fill) (sym (next (has-room out fill first h))) (record {
+        stands = w .stands ∙ sym (fed-append p x l (joined ls));
+        filled = omega (arith, w .filled, both-long);
+        long = w .long ∙ after-length out fill first h;
+        front =
+            w .front
+            ∙ ap (λ (u : List ℕ). u ++ rest) (after-take out fill first h)
+            ∙ append-assoc (take fill out) first rest
+            ∙ ap (λ (u : List ℕ). take fill out ++ u) (sym both);
+      })
+
+  -- the first has room where all have
+  first-fits : fill + length (fedPrinted p x (l ++ joined ls)) ≤ length out → fill + length first ≤ length out
+  first-fits h = omega (arith, both-long)
+
+  rest-fits : fill + length (fedPrinted p x (l ++ joined ls)) ≤ length out → fill + length first + length rest ≤ length (outAfter out fill first)
+  rest-fits h = omega (arith, both-long, after-length out fill first (first-fits h))
+
+lines-wrote : (p : Plan) (ls : List (List ℕ)) (x : At) (out : List ℕ) (fill : ℕ) → fill + length (fedPrinted p x (joined ls)) ≤ length out
+    → Wrote p x (joined ls) out fill (linesTaken p x ls out fill)
+unfolding joined linesTaken nothing fed fedPrinted
+lines-wrote p [] x out fill h = record { stands = refl; filled = omega arith; long = refl; front = sym (append-nil _) }
+lines-wrote p (l ∷ ls) x out fill h = line-wrote p x l ls out fill (first-fits p x l ls out fill h) (lines-wrote p ls (fed p x l) _ _ (rest-fits p x l ls out fill h))
+
+-- the lines of a text are the text
+onto-joined : (b : ℕ) (ls : List (List ℕ)) → joined (onto b ls) ≡ b ∷ joined ls
+unfolding onto joined
+onto-joined b [] = refl
+onto-joined b (l ∷ ls) = refl
+
+joined-lines : (t : List ℕ) → joined (lines t) ≡ t
+unfolding lines joined
+joined-lines [] = refl
+joined-lines (b ∷ bs) = go (eqb b lineFeed) (lines bs) (joined-lines bs)
+  where
+    go : (c : Bool) (ls : List (List ℕ)) → joined ls ≡ bs → joined (elim c [ true ↦ (b ∷ []) ∷ ls | false ↦ onto b ls ]) ≡ b ∷ bs
+    go true ls e = ap (λ (u : List ℕ). b ∷ u) e
+    go false ls e = onto-joined b ls ∙ ap (λ (u : List ℕ). b ∷ u) e
+
+pub piece-wrote : (p : Plan) (x : At) (t out : List ℕ) (fill : ℕ) → fill + length (fedPrinted p x t) ≤ length out → Wrote p x t out fill (pieceTaken p x t out fill)
+unfolding pieceTaken
+piece-wrote p x t out fill h =
+    subst (λ (u : List ℕ). Wrote p x u out fill (linesTaken p x (lines t) out fill)) (joined-lines t) (lines-wrote p (lines t) x out fill (rw (joined-lines t) h))

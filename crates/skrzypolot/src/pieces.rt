@@ -1,0 +1,82 @@
+// The output of a run goes through one buffer, by the writer's own answer that a line has no room: then the buffer is written out, and the run goes on.
+ghost use Prim.Native.Nat.{_≤_};
+ghost use lib.ListN.{length};
+use files::write_out;
+use line::Filled;
+use run::stream::Stream;
+use run::stream::feed;
+use run::stream::finish;
+use step::Rows;
+
+// Where a run stands behind a piece, with the fill of the buffer, and whether a write failed.
+pub struct Answered {
+    pub stream: Stream,
+    pub fill: usize,
+    pub is_failed: bool,
+}
+
+// One piece of the event file. An empty buffer has room for any line, so that it is never met that nothing is taken with an empty buffer.
+pub fn answer_piece(
+    rows: Rows,
+    lengths: &[u16],
+    s: Stream,
+    piece: &[u8],
+    out: &mut [u8],
+    fill: usize,
+) -> Answered
+    requires { ⌜ fill ≤ length (now out) ⌝ }
+    ensures { λ r. ⌜ r .fill ≤ length (now (out .exit)) ⌝ }
+{
+    let mut stream = s;
+    let mut filled = fill;
+    let mut at = 0;
+    while at < piece.len() {
+        let f = feed(rows, lengths, stream, &piece[at..], out, filled);
+        let next = f.stream;
+        stream = next;
+        if f.taken == 0 {
+            if filled == 0 || !write_out(&out[..filled]) {
+                return Answered {
+                    stream,
+                    fill: 0,
+                    is_failed: true,
+                };
+            }
+            filled = 0;
+        } else {
+            filled = f.fill;
+            at += f.taken;
+        }
+    }
+    Answered {
+        stream,
+        fill: filled,
+        is_failed: false,
+    }
+}
+
+// The last line alone, in a buffer that was written out.
+fn answer_last(rows: Rows, lengths: &[u16], s: Stream, out: &mut [u8]) {
+    let filled = finish(rows, lengths, s, out, 0);
+    let Filled::Fill(end) = filled else {
+        return;
+    };
+    write_out(&out[..end]);
+}
+
+// The end of the file: the last line, and then all that the buffer holds.
+pub fn answer_end(rows: Rows, lengths: &[u16], s: Stream, out: &mut [u8], fill: usize)
+    requires { ⌜ fill ≤ length (now out) ⌝ }
+{
+    let filled = finish(rows, lengths, s, out, fill);
+    match filled {
+        Filled::Fill(end) => {
+            write_out(&out[..end]);
+        }
+        Filled::NoRoom => {
+            if write_out(&out[..fill]) {
+                answer_last(rows, lengths, s, out);
+            }
+        }
+    }
+}
