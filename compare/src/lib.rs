@@ -35,6 +35,18 @@ mod c {
             running: *mut u32,
             ended: *mut u32,
         ) -> u32;
+        pub fn skrzypolot_line(
+            block: *const u8,
+            block_len: usize,
+            image: *mut u8,
+            image_len: usize,
+            number: u32,
+            line: *const u8,
+            line_len: usize,
+            out: *mut u8,
+            out_len: usize,
+            fill: *mut usize,
+        ) -> u32;
     }
 }
 
@@ -85,6 +97,31 @@ pub fn step(
             subsystem,
             running,
             ended,
+        )
+    }
+}
+
+pub fn line(
+    block: &[u8],
+    image: &mut [u8],
+    number: u32,
+    line: &[u8],
+    out: &mut [u8],
+    fill: &mut usize,
+) -> u32 {
+    // SAFETY: as above.
+    unsafe {
+        c::skrzypolot_line(
+            block.as_ptr(),
+            block.len(),
+            image.as_mut_ptr(),
+            image.len(),
+            number,
+            line.as_ptr(),
+            line.len(),
+            out.as_mut_ptr(),
+            out.len(),
+            fill,
         )
     }
 }

@@ -4,6 +4,7 @@ ghost use Rattle.host.specs.Read.{readLeft, readCall};
 ghost use Rattle.host.specs.Margin.{marginLeft, marginCall};
 ghost use Rattle.host.specs.Fresh.{freshLeft, freshCall};
 ghost use Rattle.host.specs.Step.{stepLeft, stepCall};
+ghost use Rattle.host.specs.Line.{lineLeft, lineCall};
 use step::event::stepped;
 use step::rows_with;
 
@@ -86,4 +87,36 @@ pub extern "C" fn skrzypolot_step(
     *running = o.task as u32;
     *ended = o.ended;
     o.answer as u32
+}
+
+// One event line on the state that the image writes, its printed line written behind the fill, which moves on. 34, 31, 32 and 33 keep
+// everything. No printed line is empty, so that a fill that stays means 33.
+#[no_mangle]
+pub extern "C" fn skrzypolot_line(
+    block: &[u8],
+    image: &mut [u8],
+    number: u32,
+    line: &[u8],
+    out: &mut [u8],
+    fill: &mut usize,
+) -> u32
+    ensures { λ r. ⌜ lineLeft r (now (image .exit)) (now (out .exit)) (now (fill .exit))
+        ≡ lineCall (now (block .entry)) (now (image .entry)) number (now (line .entry)) (now (out .entry)) (now (fill .entry)) ⌝ }
+{
+    let x = image::open(block, image);
+    if x.number != 0 {
+        return x.number as u32;
+    }
+    let p = x.plan;
+    let s = x.state;
+    let ceilings = x.ceilings;
+    let at = *fill;
+    let l = run::line_step(rows_with(p, ceilings), &p.lengths, s, number, line, out, at);
+    if l.fill == at {
+        return 33;
+    }
+    let next = l.state;
+    image::write_image(next, image);
+    *fill = l.fill;
+    l.number as u32
 }

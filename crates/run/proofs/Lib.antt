@@ -6,3 +6,12 @@ pub mod LongText
 pub mod SmallPlan
 pub mod ShortLines
 pub mod ReportRoom
+pub mod Keeping
+pub mod Going
+pub mod Pieces
+pub mod LineSteps
+pub mod KeptBytes
+pub mod TakenLines
+pub mod WholeLines
+pub mod FirstLines
+pub mod LineLoop

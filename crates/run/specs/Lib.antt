@@ -2,3 +2,4 @@ pub mod Lined
 pub mod Stream
 pub mod AsFar
 pub mod Reporting
+pub mod Fed

@@ -1,6 +1,9 @@
 // The run program and the admission report as library calls over slices, in whole and in pieces.
+mod lines;
 pub mod report;
+pub mod stream;
 
+pub use lines::line_step;
 use state::State;
 
 // What one event line gives. number: the answer, or 33 where its printed line has no room; then state and fill are those lent.

@@ -1,0 +1,242 @@
+// "The run program": an event file that comes in pieces, cut anywhere. A line of any length takes no more memory than 20 bytes: no event line is
+// longer. A line that lies whole in a piece is read where it lies.
+use crate::lines::line_step;
+use line::Filled;
+use plan::Plan;
+use state::State;
+use state::beginning::fresh;
+use step::Rows;
+use text::find;
+ghost use mathlib.Core.Path.{_≡_};
+ghost use mathlib.Core.List.{[], _++_};
+ghost use Prim.Native.Nat.{ℕ, _+_, _≤_, min};
+ghost use lib.ListN.{length, take};
+ghost use Rattle.text.specs.Lines.{lineFeed, until};
+ghost use Rattle.plan.specs.declared.Plan.{Plan};
+ghost use Rattle.step.specs.Lent.{Lent};
+ghost use Rattle.line.specs.declared.Filled.the-variants.{Fill};
+ghost use Rattle.line.specs.Filled.{fillAfter, outAfter};
+ghost use Rattle.run.specs.Stream.{mostKept, start, lineDone, linePrinted, endPrinted};
+ghost use Rattle.run.specs.Fed.{keptOf, atOf, takenOf, Within, takenTo, lineTaken, pieceTaken, firstLine, wholeLine};
+
+// The first bytes of a line that is not whole yet. A length past 20 means 20.
+pub struct Kept {
+    pub bytes: [u8; 20],
+    pub length: u8,
+}
+
+// Where a run stands: its state, the number of its next line, and what came of that line.
+pub struct Stream {
+    pub state: State,
+    pub number: u32,
+    pub kept: Kept,
+}
+
+// What a piece gives: where the run stands then, how many bytes of the piece were taken, and the fill of the buffer.
+pub struct Fed {
+    pub stream: Stream,
+    pub taken: usize,
+    pub fill: usize,
+}
+
+fn none_kept() -> Kept
+    ensures { λ r. ⌜ keptOf r ≡ [] ⌝ }
+{
+    Kept {
+        bytes: [0u8; 20],
+        length: 0,
+    }
+}
+
+// How many bytes are kept.
+fn size_of(k: Kept) -> usize
+    ensures { λ r. ⌜ r ≡ length (keptOf k) ⌝ }
+{
+    let n = k.length;
+    if n < 20 { n as usize } else { 20 }
+}
+
+// The smaller of two counts.
+fn least(a: usize, b: usize) -> usize
+    ensures { λ r. ⌜ r ≡ min a b ⌝ }
+{
+    if a < b { a } else { b }
+}
+
+// More bytes of the line behind those that are kept, up to 20.
+fn keep(k: Kept, part: &[u8]) -> Kept
+    ensures { λ r. ⌜ keptOf r ≡ take mostKept (keptOf k ++ now (part .entry)) ⌝ }
+{
+    let mut bytes = k.bytes;
+    let n = size_of(k);
+    let count = least(20 - n, part.len());
+    let mut i = 0;
+    while i < count {
+        bytes[n + i] = part[i];
+        i += 1;
+    }
+    Kept {
+        bytes,
+        length: (n + count) as u8,
+    }
+}
+
+// Before the first byte of an event file.
+pub fn begin(p: Plan) -> Stream
+    ensures { λ r. ⌜ atOf r ≡ start p ⌝ }
+{
+    Stream {
+        state: fresh(p),
+        number: 1,
+        kept: none_kept(),
+    }
+}
+
+// A line that is whole is answered, if its printed line has room; past 9,999,999 lines it is passed over. Of the piece it takes size bytes. A printed
+// line is never empty, so that a fill that stays means that there was no room.
+fn answer(
+    rows: Rows,
+    lengths: &[u16],
+    s: Stream,
+    line: &[u8],
+    size: usize,
+    out: &mut [u8],
+    fill: usize,
+) -> Fed
+    ensures { λ r. ⌜ Within size (length (now (out .entry))) fill r × ((p : Plan) → Lent p (s .state) rows (now (lengths .entry)) → takenOf r (now (out .exit))
+        ≡ takenTo (atOf s) (lineDone p (wholeLine (atOf s) (now (line .entry)))) size (linePrinted p (wholeLine (atOf s) (now (line .entry)))) (now (out .entry)) fill) ⌝ }
+{
+    let state = s.state;
+    let number = s.number;
+    if 9999999 < number {
+        return Fed {
+            stream: Stream {
+                state,
+                number,
+                kept: none_kept(),
+            },
+            taken: size,
+            fill,
+        };
+    }
+    let l = line_step(rows, lengths, state, number, line, out, fill);
+    if l.fill == fill {
+        return Fed {
+            stream: s,
+            taken: 0,
+            fill,
+        };
+    }
+    let next = l.state;
+    Fed {
+        stream: Stream {
+            state: next,
+            number: number + 1,
+            kept: none_kept(),
+        },
+        taken: size,
+        fill: l.fill,
+    }
+}
+
+// The end of a line, with its line feed. A line that lies whole in the piece is read where it lies, any other through the kept bytes.
+fn end_line(rows: Rows, lengths: &[u16], s: Stream, part: &[u8], out: &mut [u8], fill: usize) -> Fed
+    requires { ⌜ until lineFeed (now part) + 1 ≡ length (now part) ⌝ }
+    ensures { λ r. ⌜ Within (length (now (part .entry))) (length (now (out .entry))) fill r × ((p : Plan) → Lent p (s .state) rows (now (lengths .entry)) → takenOf r (now (out .exit)) ≡ lineTaken p (atOf s) (now (part .entry)) (now (out .entry)) fill) ⌝ }
+{
+    let kept = s.kept;
+    if size_of(kept) == 0 {
+        return answer(rows, lengths, s, part, part.len(), out, fill);
+    }
+    let whole = keep(kept, part);
+    let n = size_of(whole);
+    let bytes = whole.bytes;
+    answer(rows, lengths, s, &bytes[..n], part.len(), out, fill)
+}
+
+// The first line of the rest of a piece; if the piece ends within it, its bytes are kept.
+fn feed_line(
+    rows: Rows,
+    lengths: &[u16],
+    s: Stream,
+    rest: &[u8],
+    out: &mut [u8],
+    fill: usize,
+) -> Fed
+    requires { ⌜ 1 ≤ length (now rest) ⌝ }
+    ensures { λ r. ⌜ Within (length (now (rest .entry))) (length (now (out .entry))) fill r × ((p : Plan) → Lent p (s .state) rows (now (lengths .entry)) → takenOf r (now (out .exit)) ≡ lineTaken p (atOf s) (firstLine (now (rest .entry))) (now (out .entry)) fill) ⌝ }
+{
+    let end = find(rest, 0, b'\n');
+    if end < rest.len() {
+        return end_line(rows, lengths, s, &rest[..end + 1], out, fill);
+    }
+    let state = s.state;
+    let kept = s.kept;
+    Fed {
+        stream: Stream {
+            state,
+            number: s.number,
+            kept: keep(kept, rest),
+        },
+        taken: end,
+        fill,
+    }
+}
+
+// A piece of an event file, line by line, up to the first line whose printed line has no room.
+pub fn feed(
+    rows: Rows,
+    lengths: &[u16],
+    s: Stream,
+    piece: &[u8],
+    out: &mut [u8],
+    fill: usize,
+) -> Fed
+    ensures { λ r. ⌜ Within (length (now (piece .entry))) (length (now (out .entry))) fill r × ((p : Plan) → Lent p (s .state) rows (now (lengths .entry)) → takenOf r (now (out .exit)) ≡ pieceTaken p (atOf s) (now (piece .entry)) (now (out .entry)) fill) ⌝ }
+{
+    let mut stream = s;
+    let mut at = 0;
+    let mut filled = fill;
+    while at < piece.len() {
+        let f = feed_line(rows, lengths, stream, &piece[at..], out, filled);
+        if f.taken == 0 {
+            return Fed {
+                stream,
+                taken: at,
+                fill: filled,
+            };
+        }
+        let next = f.stream;
+        stream = next;
+        filled = f.fill;
+        at += f.taken;
+    }
+    Fed {
+        stream,
+        taken: at,
+        fill: filled,
+    }
+}
+
+// The end of the file: a last line without its line feed is answered 11.
+pub fn finish(rows: Rows, lengths: &[u16], s: Stream, out: &mut [u8], fill: usize) -> Filled
+    ensures { λ r. ⌜ ((n : ℕ) → r ≡ Fill n → fill ≤ length (now (out .entry)) → n ≤ length (now (out .entry))) × ((p : Plan) → Lent p (s .state) rows (now (lengths .entry))
+        → (r ≡ fillAfter (now (out .entry)) fill (endPrinted p (atOf s))) × (now (out .exit) ≡ outAfter (now (out .entry)) fill (endPrinted p (atOf s)))) ⌝ }
+{
+    let kept = s.kept;
+    let n = size_of(kept);
+    let number = s.number;
+    if n == 0 {
+        return Filled::Fill(fill);
+    }
+    if 9999999 < number {
+        return Filled::Fill(fill);
+    }
+    let state = s.state;
+    let bytes = kept.bytes;
+    let l = line_step(rows, lengths, state, number, &bytes[..n], out, fill);
+    if l.fill == fill {
+        return Filled::NoRoom;
+    }
+    Filled::Fill(l.fill)
+}
