@@ -427,7 +427,7 @@ fn any_text(random: &mut Random) -> Vec<u8> {
             let length = random.below(400);
             text = any_bytes(random, length);
         }
-        5 => text = lower_a_period(random, &text),
+        5 => text = any_rows(random),
         6..=11 => {}
         _ => {
             for _ in 0..random.within(1..=3) {
@@ -438,20 +438,25 @@ fn any_text(random: &mut Random) -> Vec<u8> {
     text
 }
 
-/// The same plan with the period of its last subsystem at its budget, which leaves a negative margin to most.
-fn lower_a_period(random: &mut Random, text: &[u8]) -> Vec<u8> {
-    let text = String::from_utf8_lossy(text);
-    let last = text.lines().filter(|line| line.starts_with('S')).count() - 1;
-    let mut lowered = String::new();
-    for (row, line) in text.lines().enumerate() {
-        let fields: Vec<&str> = line.split('\t').collect();
-        lowered += &match fields[..] {
-            ["S", _, budget] if row == last => format!("S\t{budget}\t{budget}\n"),
-            _ if random.percent(1) => String::new(),
-            _ => format!("{line}\n"),
-        };
+/// Lines of the grammar with numbers from end to end of their ranges and a little past them: the largest demands there are.
+fn any_rows(random: &mut Random) -> Vec<u8> {
+    let mut text = String::new();
+    let any = |random: &mut Random, most: u32| match random.below(12) {
+        0..=3 => 1,
+        4..=7 => most,
+        8 => random.pick(&[0, most + 1, 65_535, 65_536, 99_999]).unwrap(),
+        _ => random.within(1..=most),
+    };
+    for _ in 0..random.within(1..=9) {
+        let period = any(random, 10_000);
+        let budget = any(random, period.clamp(1, 10_000));
+        text += &format!("S\t{period}\t{budget}\n");
     }
-    lowered.into_bytes()
+    if random.percent(50) {
+        text += &format!("T\t{}\nR\tG\n", random.below(8));
+        text += &format!("U\t0\t0\t{}\n", any(random, 10_000));
+    }
+    text.into_bytes()
 }
 
 /// Bytes of one kind made into bytes of another length, of another kind, or of none.
@@ -668,7 +673,7 @@ impl Hand {
 #[test]
 fn any_calls_in_any_sequence() {
     let mut arena = Arena::new();
-    each_case(7_000, |random| {
+    each_case(4_000, |random| {
         let mut hand = Hand::any(random);
         if random.percent(95) {
             hand.begin(random, &mut arena);
