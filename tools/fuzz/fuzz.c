@@ -385,11 +385,7 @@ static void one_operation(const uint8_t *data, size_t length, uint32_t event_num
     case 10:
         other_lengths(data, length);
         break;
-    case 11: {
-        uint32_t event[3] = {take(1) % NO_KIND, take_row(), take_row()};
-        line_beside_step(event, event_number);
-        break;
-    }
+    case 11:
     case 12: {
         uint32_t event[3] = {take(1) % NO_KIND, take_row(), take_row()};
         uint32_t place = take(1), byte = take(1);
@@ -407,6 +403,7 @@ static void one_operation(const uint8_t *data, size_t length, uint32_t event_num
     }
     default: {
         uint32_t event[3] = {code % NO_KIND, take_row(), take_row()};
+        line_beside_step(event, event_number);
         step_in_hand(event);
     }
     }
