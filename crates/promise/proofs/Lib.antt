@@ -9,3 +9,4 @@ pub mod Sections
 pub mod Lent
 pub mod Calls
 pub mod BudgetsInC
+pub mod OneOutcome

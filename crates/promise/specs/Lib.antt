@@ -2,3 +2,4 @@ pub mod SmallSet
 pub mod Budgets
 pub mod BudgetsInC
 pub mod Sections
+pub mod OneOutcome

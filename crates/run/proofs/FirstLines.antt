@@ -1,26 +1,24 @@
 -- Laws of a piece line by line: its first line, what is left behind it, and when a loop over the lines stops.
-use mathlib.Core.Path.{_≡_, refl, sym, ap, subst, _∙_}
+use mathlib.Core.Path.{_≡_, refl, sym, ap, _∙_}
 use mathlib.Core.Bool.{Bool, true, false}
-use mathlib.Core.List.{List, [], _∷_, _++_}
+use mathlib.Core.List.{List, [], _∷_}
 use Prim.Native.Nat.{ℕ, suc, _+_, _≤_, _<_}
-use native.Mathlib.Nat.{zero-add, add-zero, add-assoc}
 use native.Mathlib.Numerals.{add-one}
 use native.Mathlib.Omega.{arith}
 use lib.Dec.{ltb, eqb}
-use lib.ListN.{length, take, drop, drop-of-length-le, length-drop}
-use lib.Seq.{take-all, length-take-le, drop-length, drop-drop}
+use lib.ListN.{length, take, drop}
+use lib.Seq.{take-all, length-take-le, drop-length}
 use borrow.Author.Tests.{ltb-true, ltb-false, eq-eqb}
 use Rattle.text.specs.Lines.{lineFeed, until, lines}
-use Rattle.text.proofs.Parted.{Parted, Whole, parted, whole}
+use Rattle.text.proofs.Parted.{Parted, parted, whole}
 use Rattle.text.proofs.Lines.{lines-feed, lines-whole}
 use Rattle.plan.specs.declared.Plan.{Plan}
 use Rattle.step.specs.declared.Rows.{Rows}
 use Rattle.step.specs.Lent.{Lent}
-use Rattle.line.specs.Filled.{hasRoom, outAfter}
+use Rattle.line.specs.Filled.{hasRoom}
 use Rattle.line.specs.Run.{lineGives}
-use Rattle.run.specs.declared.stream.Fed.{Fed}
-use Rattle.run.specs.Stream.{At, mostKept, keeping, isGoing, lineDone, fedByte, fed, fedPrinted}
-use Rattle.run.specs.Fed.{Taken, atOf, takenOf, nothing, behind, takenTo, lineTaken, linesTaken, pieceTaken, firstLine}
+use Rattle.run.specs.Stream.{At, keeping, isGoing, lineDone, fedByte, fed, fedPrinted}
+use Rattle.run.specs.Fed.{nothing, behind, lineTaken, firstLine}
 use Rattle.run.proofs.LineSteps.{line-lent}
 use Rattle.run.proofs.TakenLines.{taken-room, taken-none}
 
@@ -40,7 +38,7 @@ module _ (t : List ℕ) where
   unfolding firstLine
   first-is = ap (λ (k : ℕ). take k t) (add-one (until lineFeed t))
 
-  first-length : until lineFeed t < length t → length (firstLine t) ≡ suc (until lineFeed t)
+  pub first-length : until lineFeed t < length t → length (firstLine t) ≡ suc (until lineFeed t)
   first-length h = ap length first-is ∙ length-take-le (suc (until lineFeed t)) t h
 
   pub first-ended : until lineFeed t < length t → until lineFeed (firstLine t) + 1 ≡ length (firstLine t)

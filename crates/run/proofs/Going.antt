@@ -1,6 +1,6 @@
 -- The definitions of a run in pieces, case by case: a byte inside a line, a line feed, a line that is answered, and one past the last that is.
-use mathlib.Core.Path.{_≡_, refl, ap, sym, _∙_}
-use mathlib.Core.Bool.{Bool, true, false}
+use mathlib.Core.Path.{_≡_, refl, sym}
+use mathlib.Core.Bool.{true, false}
 use mathlib.Core.List.{List, [], _∷_, _++_, append-assoc}
 use Prim.Native.Nat.{ℕ, _+_}
 use lib.Dec.{eqb}
@@ -8,7 +8,7 @@ use Rattle.text.specs.Lines.{lineFeed}
 use Rattle.plan.specs.declared.Plan.{Plan}
 use Rattle.line.specs.Printed.{printed}
 use Rattle.line.specs.Run.{lineGives}
-use Rattle.run.specs.Stream.{At, keeping, isGoing, lineDone, linePrinted, fedByte, bytePrinted, fed, fedPrinted, endPrinted}
+use Rattle.run.specs.Stream.{At, keeping, isGoing, lineDone, linePrinted, fedByte, bytePrinted, fed, fedPrinted}
 
 module _ (p : Plan) (x : At) where
   -- a line that is answered

@@ -1,13 +1,12 @@
 -- Laws of the bytes that are kept of a line: how many there are, and how more are put behind them.
 use mathlib.Core.Path.{_≡_, refl, sym, ap, _∙_}
 use mathlib.Core.Bool.{Bool, true, false}
-use mathlib.Core.List.{List, [], _∷_, _++_, append-nil, append-assoc}
+use mathlib.Core.List.{List, [], _∷_, _++_, append-assoc}
 use Prim.Native.Nat.{ℕ, zero, suc, _+_, _-_, _≤_, _<_, min}
-use native.Mathlib.Nat.{add-zero, not-suc-le-zero}
 use native.Mathlib.Numerals.{add-one}
 use native.Mathlib.Omega.{arith}
 use lib.Dec.{leb}
-use lib.ListN.{length, take, set, getD, length-take, length-set}
+use lib.ListN.{length, take, set, getD, length-take}
 use lib.Seq.{take-all, take-suc, take-suc-set, take-append-add}
 use borrow.Author.Tests.{leb-true, leb-false}
 

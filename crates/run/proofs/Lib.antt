@@ -15,3 +15,8 @@ pub mod TakenLines
 pub mod WholeLines
 pub mod FirstLines
 pub mod LineLoop
+pub mod OutTwice
+pub mod FedFacts
+pub mod PutLines
+pub mod Starting
+pub mod RunText

@@ -1,18 +1,17 @@
 -- The loop over the lines of a piece: what one turn changes, and where it stops.
 use mathlib.Core.Path.{_≡_, refl, sym, ap, subst, _∙_}
 use mathlib.Core.Bool.{Bool, true, false}
-use mathlib.Core.List.{List, [], _∷_}
+use mathlib.Core.List.{List, _∷_}
 use Prim.Native.Nat.{ℕ, _+_, _≤_}
 use native.Mathlib.Nat.{zero-add, add-zero, add-assoc}
 use native.Mathlib.Omega.{arith}
-use lib.ListN.{length, drop, drop-of-length-le, length-drop}
+use lib.ListN.{length, drop, drop-of-length-le}
 use lib.Seq.{drop-drop}
 use Rattle.text.specs.Lines.{lines}
 use Rattle.plan.specs.declared.Plan.{Plan}
 use Rattle.step.specs.declared.Rows.{Rows}
 use Rattle.step.specs.Lent.{Lent}
 use Rattle.line.specs.Filled.{hasRoom, outAfter}
-use Rattle.run.specs.declared.stream.Stream.{Stream}
 use Rattle.run.specs.declared.stream.Fed.{Fed}
 use Rattle.run.specs.Stream.{At, fed, fedPrinted}
 use Rattle.run.specs.Fed.{Taken, atOf, takenOf, nothing, behind, lineTaken, linesTaken, pieceTaken, firstLine}
@@ -21,12 +20,12 @@ use Rattle.run.proofs.FirstLines.{first-some, lines-first, line-taken-l
 
 -- lines taken, by the room of the first
 module _ (p : Plan) (x : At) (l : List ℕ) (ls : List (List ℕ)) (out : List ℕ) (fill : ℕ) where
-  lines-room : hasRoom out fill (fedPrinted p x l) ≡ true
+  pub lines-room : hasRoom out fill (fedPrinted p x l) ≡ true
       → linesTaken p x (l ∷ ls) out fill ≡ behind (length l) (linesTaken p (fed p x l) ls (outAfter out fill (fedPrinted p x l)) (fill + length (fedPrinted p x l)))
   unfolding linesTaken
   lines-room e = rw (linesTaken, e)
 
-  lines-none : hasRoom out fill (fedPrinted p x l) ≡ false → linesTaken p x (l ∷ ls) out fill ≡ nothing x out fill
+  pub lines-none : hasRoom out fill (fedPrinted p x l) ≡ false → linesTaken p x (l ∷ ls) out fill ≡ nothing x out fill
   unfolding linesTaken
   lines-none e = rw (linesTaken, e)
 

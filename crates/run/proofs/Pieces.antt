@@ -15,7 +15,8 @@ use Rattle.plan.specs.declared.Plan.{Plan}
 use Rattle.state.specs.declared.State.{State}
 use Rattle.line.specs.Printed.{printed}
 use Rattle.line.specs.Run.{mostLines, lineGives, eventGives, outcomes, printedFrom, printedRun}
-use Rattle.run.specs.Stream.{At, mostKept, start, keeping, isGoing, lineDone, linePrinted, fedByte, bytePrinted, fed, fedPrinted, endPrinted, joined, piecesPrinted}
+use Rattle.run.specs.AsFar.{inOne}
+use Rattle.run.specs.Stream.{At, mostKept, start, keeping, isGoing, lineDone, linePrinted, fedByte, bytePrinted, fed, fedPrinted, endPrinted, piecesPrinted}
 use Rattle.run.proofs.Keeping.{take-again, whole-snoc, event-kept, event-kept-whole, lines-line}
 use Rattle.run.proofs.Going.{done-going, printed-going, done-over, printed-over, byte-on, byte-quiet, fed-append, printed-append}
 
@@ -24,14 +25,14 @@ unfoldable pub textPrinted : Plan → At → List ℕ → List ℕ
 textPrinted p x t = fedPrinted p x t ++ endPrinted p (fed p x t)
 
 -- only the joined text matters
-pub pieces-joined : (p : Plan) (x : At) (bs : List (List ℕ)) → piecesPrinted p x bs ≡ textPrinted p x (joined bs)
-unfolding piecesPrinted joined textPrinted fed fedPrinted
+pub pieces-joined : (p : Plan) (x : At) (bs : List (List ℕ)) → piecesPrinted p x bs ≡ textPrinted p x (inOne bs)
+unfolding piecesPrinted inOne textPrinted fed fedPrinted
 pieces-joined p x [] = refl
 pieces-joined p x (b ∷ bs) =
-    rw (printed-append p x b (joined bs), fed-append p x b (joined bs), pieces-joined p (fed p x b) bs)
+    rw (printed-append p x b (inOne bs), fed-append p x b (inOne bs), pieces-joined p (fed p x b) bs)
     (sym (append-assoc (fedPrinted p x b) _ _))
 
-pub cut-anyhow : (p : Plan) (x : At) (cs bs : List (List ℕ)) → joined cs ≡ joined bs → piecesPrinted p x cs ≡ piecesPrinted p x bs
+pub cut-anyhow : (p : Plan) (x : At) (cs bs : List (List ℕ)) → inOne cs ≡ inOne bs → piecesPrinted p x cs ≡ piecesPrinted p x bs
 cut-anyhow p x cs bs e = pieces-joined p x cs ∙ ap (textPrinted p x) e ∙ sym (pieces-joined p x bs)
 
 -- where a run stands inside a line of which l came so far
@@ -132,6 +133,6 @@ text-from p s n {l} w (b ∷ t) = go (eqb b lineFeed) refl (λ s₁ n₁ l₁ w�
     go false e ih = text-on p s n w t b e ∙ ih s n (l ++ (b ∷ [])) (whole-snoc b w e) ∙ rw (append-snoc l b t)
 
 -- a file that comes in pieces prints what its whole text prints, however it is cut
-pub pieces-run : (p : Plan) (bs : List (List ℕ)) → piecesPrinted p (start p) bs ≡ printedRun p (joined bs)
+pub pieces-run : (p : Plan) (bs : List (List ℕ)) → piecesPrinted p (start p) bs ≡ printedRun p (inOne bs)
 unfolding start printedRun
-pieces-run p bs = pieces-joined p (start p) bs ∙ text-from p _ 1 Whole.end (joined bs)
+pieces-run p bs = pieces-joined p (start p) bs ∙ text-from p _ 1 Whole.end (inOne bs)

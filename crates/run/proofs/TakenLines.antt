@@ -1,12 +1,11 @@
 -- Laws of lines that are taken: with room and without, a line that is answered, and one that is passed over.
 use mathlib.Core.Path.{_≡_, refl, sym, ap, _∙_}
 use mathlib.Core.Bool.{Bool, true, false}
-use mathlib.Core.List.{List, [], _∷_, _++_}
+use mathlib.Core.List.{List, [], _∷_}
 use Prim.Native.Nat.{ℕ, _+_, _≤_}
 use native.Mathlib.Nat.{add-zero}
 use native.Mathlib.Omega.{arith}
-use lib.Dec.{leb}
-use lib.ListN.{length, take, drop, take-append-drop}
+use lib.ListN.{length, drop, take-append-drop}
 use borrow.Author.Tests.{le-leb}
 use Rattle.plan.specs.declared.Plan.{Plan}
 use Rattle.step.specs.declared.Outcome.{Outcome}
@@ -54,19 +53,47 @@ taken-quiet x y n out fill = taken-room x y n [] out fill (room-quiet out fill) 
 
 -- what a line step gives back, with room and without
 module _ (p : Plan) (x : At) (line out : List ℕ) (fill : ℕ) where
-  given : Outcome
+  unfoldable pub given : Outcome
   given = lineGives p (x .state) line
 
-  text : List ℕ
+  unfoldable pub text : List ℕ
   text = printed (x .number) given
 
-  step-room : hasRoom out fill text ≡ true → lined p (x .state) (x .number) line out fill ≡ record { number = given .answer; state = given .state; fill = fill + length text }
+  pub step-room : hasRoom out fill text ≡ true → lined p (x .state) (x .number) line out fill ≡ record { number = given .answer; state = given .state; fill = fill + length text }
   unfolding lined linedBy given text
   step-room e = rw (linedBy, e)
 
-  step-none : hasRoom out fill text ≡ false → lined p (x .state) (x .number) line out fill ≡ record { number = 33; state = x .state; fill = fill }
+  pub step-none : hasRoom out fill text ≡ false → lined p (x .state) (x .number) line out fill ≡ record { number = 33; state = x .state; fill = fill }
   unfolding lined linedBy given text
   step-none e = rw (linedBy, e)
+
+-- the fill says whether it had room
+module _ (p : Plan) (x : At) (line out : List ℕ) (fill : ℕ) {l : Lined} (e : l ≡ lined p (x .state) (x .number) line out fill) where
+  pub no-room : l .fill ≡ fill → hasRoom out fill (text p x line out fill) ≡ false
+  unfolding text
+  no-room h = go (hasRoom out fill (text p x line out fill)) refl
+    where
+      go : (b : Bool) → hasRoom out fill (text p x line out fill) ≡ b → hasRoom out fill (text p x line out fill) ≡ false
+      go true t =
+          let k = ap (λ y. y .fill) (e ∙ step-room p x line out fill t) in
+          absurd (omega (arith, printed-some (x .number) (given p x line out fill)))
+      go false t = t
+
+  pub some-room : (l .fill ≡ fill → ⊥) → hasRoom out fill (text p x line out fill) ≡ true
+  some-room h = go (hasRoom out fill (text p x line out fill)) refl
+    where
+      go : (b : Bool) → hasRoom out fill (text p x line out fill) ≡ b → hasRoom out fill (text p x line out fill) ≡ true
+      go true t = t
+      go false t = absurd (h (ap (λ y. y .fill) (e ∙ step-none p x line out fill t)))
+
+  -- the fill as the writer says it
+  pub says-none : l .fill ≡ fill → NoRoom ≡ fillAfter out fill (text p x line out fill)
+  unfolding fillAfter
+  says-none h = rw (fillAfter, no-room h)
+
+  pub says-room : (l .fill ≡ fill → ⊥) → Fill (l .fill) ≡ fillAfter out fill (text p x line out fill)
+  unfolding fillAfter
+  says-room h = rw (fillAfter, some-room h) (ap (λ y. Fill (y .fill)) (e ∙ step-room p x line out fill (some-room h)))
 
 -- a whole line: what is taken of it
 module _ (p : Plan) (x : At) (line : List ℕ) (size : ℕ) (out : List ℕ) (fill : ℕ) where
@@ -78,50 +105,31 @@ module _ (p : Plan) (x : At) (line : List ℕ) (size : ℕ) (out : List ℕ) (fi
   unfolding isGoing wholeLine
   answer-over e = rw (printed-over p (wholeLine x line) e, done-over p (wholeLine x line) e) (taken-quiet x _ size out fill)
 
-  -- the fill says whether it had room
+  -- answered or not, by the fill that came back
   module _ {l : Lined} {after : List ℕ} (g : isGoing x ≡ true) (e : l ≡ lined p (x .state) (x .number) line out fill) (f : after ≡ linedOut p (x .state) (x .number) line out fill) where
-    no-room : l .fill ≡ fill → hasRoom out fill (text p x line out fill) ≡ false
-    unfolding text
-    no-room h = go (hasRoom out fill (text p x line out fill)) refl
-      where
-        go : (b : Bool) → hasRoom out fill (text p x line out fill) ≡ b → hasRoom out fill (text p x line out fill) ≡ false
-        go true t =
-            let k = ap (λ y. y .fill) (e ∙ step-room p x line out fill t) in
-            absurd (omega (arith, printed-some (x .number) (given p x line out fill)))
-        go false t = t
-
-    some-room : (l .fill ≡ fill → ⊥) → hasRoom out fill (text p x line out fill) ≡ true
-    some-room h = go (hasRoom out fill (text p x line out fill)) refl
-      where
-        go : (b : Bool) → hasRoom out fill (text p x line out fill) ≡ b → hasRoom out fill (text p x line out fill) ≡ true
-        go true t = t
-        go false t = absurd (h (ap (λ y. y .fill) (e ∙ step-none p x line out fill t)))
-
     -- it is answered, or nothing is taken
     pub answer-none : l .fill ≡ fill → nothing x after fill ≡ Whole
     unfolding isGoing wholeLine text given linedOut
     answer-none h =
         rw (printed-going p (wholeLine x line) g)
-        (ap (λ o. nothing x o fill) (f ∙ out-full out fill (text p x line out fill) (no-room h)) ∙ sym (taken-none x _ size _ out fill (no-room h)))
+        (ap (λ o. nothing x o fill) (f ∙ out-full out fill (text p x line out fill) (no-room p x line out fill e h)) ∙ sym (taken-none x _ size _ out fill (no-room p x line out fill e h)))
 
     pub answer-room : (l .fill ≡ fill → ⊥)
         → _≡_ {A = Taken} (record { at = record { state = l .state; number = x .number + 1; kept = [] }; bytes = size; fill = l .fill; out = after }) Whole
     unfolding isGoing wholeLine text given linedOut
     answer-room h =
-        let r = some-room h in
+        let r = some-room p x line out fill e h in
         rw (printed-going p (wholeLine x line) g, done-going p (wholeLine x line) g, f, e ∙ step-room p x line out fill r)
         (sym (taken-room x _ size (text p x line out fill) out fill r))
 
     -- the same of the end of the file
     pub end-none : l .fill ≡ fill → (NoRoom ≡ fillAfter out fill (linePrinted p (wholeLine x line))) × (after ≡ outAfter out fill (linePrinted p (wholeLine x line)))
-    unfolding isGoing wholeLine text given linedOut fillAfter
-    end-none h = rw (printed-going p (wholeLine x line) g) (rw (fillAfter, no-room h), f)
+    unfolding isGoing wholeLine text given linedOut
+    end-none h = rw (printed-going p (wholeLine x line) g) (says-none p x line out fill e h, f)
 
     pub end-room : (l .fill ≡ fill → ⊥) → (Fill (l .fill) ≡ fillAfter out fill (linePrinted p (wholeLine x line))) × (after ≡ outAfter out fill (linePrinted p (wholeLine x line)))
-    unfolding isGoing wholeLine text given linedOut fillAfter
-    end-room h =
-        let r = some-room h in
-        rw (printed-going p (wholeLine x line) g) (rw (fillAfter, r) (ap (λ y. Fill (y .fill)) (e ∙ step-room p x line out fill r)), f)
+    unfolding isGoing wholeLine text given linedOut
+    end-room h = rw (printed-going p (wholeLine x line) g) (says-room p x line out fill e h, f)
 
 -- the end of the file: nothing is kept, or no more lines are answered, or the kept bytes are the last line
 module _ (p : Plan) (x : At) where

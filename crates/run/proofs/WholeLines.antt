@@ -1,23 +1,18 @@
 -- Laws of one line as it is fed: its end with the line feed, a piece that ends within it, and the first line of a piece.
 use mathlib.Core.Path.{_≡_, refl, sym, ap, ap₂, _∙_}
-use mathlib.Core.Bool.{Bool, true, false}
+use mathlib.Core.Bool.{true, false}
 use mathlib.Core.List.{List, [], _∷_, _++_, append-nil, append-assoc}
-use Prim.Native.Nat.{ℕ, suc, _+_, _≤_, _<_}
-use native.Mathlib.Nat.{zero-add}
-use native.Mathlib.Numerals.{add-one}
+use Prim.Native.Nat.{ℕ, suc, _+_, _≤_}
 use native.Mathlib.Omega.{arith}
-use lib.Dec.{ltb, leb}
-use lib.ListN.{length, take, drop}
-use lib.Seq.{take-all, length-take-le, drop-length}
-use borrow.Author.Tests.{ltb-true, ltb-false, eq-eqb}
-use Rattle.text.specs.Lines.{lineFeed, until, lines}
+use lib.Dec.{leb}
+use lib.ListN.{length, take}
+use Rattle.text.specs.Lines.{lineFeed, until}
 use Rattle.text.proofs.Parted.{Parted, Whole, parted, whole}
-use Rattle.text.proofs.Lines.{lines-feed, lines-whole}
 use Rattle.plan.specs.declared.Plan.{Plan}
 use Rattle.line.specs.Printed.{printed}
-use Rattle.line.specs.Run.{mostLines, lineGives}
+use Rattle.line.specs.Run.{mostLines}
 use Rattle.run.specs.Stream.{At, mostKept, keeping, isGoing, lineDone, linePrinted, fedByte, bytePrinted, fed, fedPrinted}
-use Rattle.run.specs.Fed.{Taken, nothing, takenTo, lineTaken, firstLine, wholeLine}
+use Rattle.run.specs.Fed.{Taken, takenTo, lineTaken, wholeLine}
 use Rattle.run.proofs.Keeping.{take-again}
 use Rattle.run.proofs.Going.{byte-on, byte-quiet}
 use Rattle.run.proofs.Pieces.{gives-kept}
@@ -53,7 +48,7 @@ module _ (p : Plan) where
   fed-inside x b [] (Whole.on e w) = byte-on p x b e
   fed-inside x b (a ∷ l) (Whole.on e w) = rw (byte-on p x b e) (fed-inside (keeping x (b ∷ [])) a l w ∙ keeping-again x (b ∷ []) (a ∷ l))
 
-  printed-inside : (x : At) {l : List ℕ} → Whole lineFeed l → fedPrinted p x l ≡ []
+  pub printed-inside : (x : At) {l : List ℕ} → Whole lineFeed l → fedPrinted p x l ≡ []
   unfolding fedPrinted
   printed-inside x Whole.end = refl
   printed-inside x (Whole.on {x = b} e w) = rw (byte-quiet p x b e) (printed-inside (fedByte p x b) w)

@@ -6,6 +6,7 @@ use Prim.Native.Nat.{ℕ, _+_, _≤_}
 use lib.ListN.{length, take}
 use Rattle.text.specs.Lines.{lineFeed, until, lines}
 use Rattle.plan.specs.declared.Plan.{Plan}
+use Rattle.state.specs.declared.State.{State}
 use Rattle.line.specs.Filled.{hasRoom, outAfter}
 use Rattle.run.specs.declared.stream.Kept.{Kept}
 use Rattle.run.specs.declared.stream.Stream.{Stream}
@@ -72,6 +73,10 @@ pieceTaken p x piece out fill = linesTaken p x (lines piece) out fill
 -- the first line of some bytes; all of them if they have no line feed
 unfoldable pub firstLine : List ℕ → List ℕ
 firstLine bs = take (until lineFeed bs + 1) bs
+
+-- where a run stands before a line
+unfoldable pub lineStart : State → ℕ → At
+lineStart s n = record { state = s; number = n; kept = [] }
 
 -- where a run stands with a line that is whole
 unfoldable pub wholeLine : At → List ℕ → At

@@ -3,3 +3,4 @@ pub mod Stream
 pub mod AsFar
 pub mod Reporting
 pub mod Fed
+pub mod Running

@@ -68,11 +68,6 @@ fedPrinted p x (b ∷ bs) = bytePrinted p x b ++ fedPrinted p (fedByte p x b) bs
 unfoldable pub endPrinted : Plan → At → List ℕ
 endPrinted p x = elim (x .kept) [ [] ↦ [] | b ∷ bs ↦ linePrinted p x ]
 
--- the pieces one behind the other: the whole text
-unfoldable pub joined : List (List ℕ) → List ℕ
-joined [] = []
-joined (b ∷ bs) = b ++ joined bs
-
 -- what is printed of a file that comes in these pieces
 unfoldable pub piecesPrinted : Plan → At → List (List ℕ) → List ℕ
 piecesPrinted p x [] = endPrinted p x

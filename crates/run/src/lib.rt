@@ -2,9 +2,11 @@
 mod lines;
 pub mod report;
 pub mod stream;
+mod whole;
 
 pub use lines::line_step;
 use state::State;
+pub use whole::run;
 
 // What one event line gives. number: the answer, or 33 where its printed line has no room; then state and fill are those lent.
 pub struct Lined {

@@ -8,7 +8,7 @@ use state::beginning::fresh;
 use step::Rows;
 use text::find;
 ghost use mathlib.Core.Path.{_≡_};
-ghost use mathlib.Core.List.{[], _++_};
+ghost use mathlib.Core.List.{_++_};
 ghost use Prim.Native.Nat.{ℕ, _+_, _≤_, min};
 ghost use lib.ListN.{length, take};
 ghost use Rattle.text.specs.Lines.{lineFeed, until};
@@ -17,7 +17,7 @@ ghost use Rattle.step.specs.Lent.{Lent};
 ghost use Rattle.line.specs.declared.Filled.the-variants.{Fill};
 ghost use Rattle.line.specs.Filled.{fillAfter, outAfter};
 ghost use Rattle.run.specs.Stream.{mostKept, start, lineDone, linePrinted, endPrinted};
-ghost use Rattle.run.specs.Fed.{keptOf, atOf, takenOf, Within, takenTo, lineTaken, pieceTaken, firstLine, wholeLine};
+ghost use Rattle.run.specs.Fed.{keptOf, atOf, takenOf, Within, takenTo, lineTaken, pieceTaken, firstLine, lineStart, wholeLine};
 
 // The first bytes of a line that is not whole yet. A length past 20 means 20.
 pub struct Kept {
@@ -37,15 +37,6 @@ pub struct Fed {
     pub stream: Stream,
     pub taken: usize,
     pub fill: usize,
-}
-
-fn none_kept() -> Kept
-    ensures { λ r. ⌜ keptOf r ≡ [] ⌝ }
-{
-    Kept {
-        bytes: [0u8; 20],
-        length: 0,
-    }
 }
 
 // How many bytes are kept.
@@ -81,15 +72,25 @@ fn keep(k: Kept, part: &[u8]) -> Kept
     }
 }
 
+// Before the first byte of a line.
+fn at_line(state: State, number: u32) -> Stream
+    ensures { λ r. ⌜ atOf r ≡ lineStart state number ⌝ }
+{
+    Stream {
+        state,
+        number,
+        kept: Kept {
+            bytes: [0u8; 20],
+            length: 0,
+        },
+    }
+}
+
 // Before the first byte of an event file.
 pub fn begin(p: Plan) -> Stream
     ensures { λ r. ⌜ atOf r ≡ start p ⌝ }
 {
-    Stream {
-        state: fresh(p),
-        number: 1,
-        kept: none_kept(),
-    }
+    at_line(fresh(p), 1)
 }
 
 // A line that is whole is answered, if its printed line has room; past 9,999,999 lines it is passed over. Of the piece it takes size bytes. A printed
@@ -110,11 +111,7 @@ fn answer(
     let number = s.number;
     if 9999999 < number {
         return Fed {
-            stream: Stream {
-                state,
-                number,
-                kept: none_kept(),
-            },
+            stream: at_line(state, number),
             taken: size,
             fill,
         };
@@ -129,11 +126,7 @@ fn answer(
     }
     let next = l.state;
     Fed {
-        stream: Stream {
-            state: next,
-            number: number + 1,
-            kept: none_kept(),
-        },
+        stream: at_line(next, number + 1),
         taken: size,
         fill: l.fill,
     }

@@ -1,19 +1,17 @@
-use Rattle.run.specs.Fed.{lineTaken, firstLine}
-use mathlib.Core.Path.{_≡_, refl, sym, ap, _∙_}
+-- `run::stream::feed` meets its contract. The loop's invariant: what is left of the piece, taken from here, gives what the whole piece gives; the state
+-- is legal, and the buffer keeps its length. The measure is what is left of the piece.
+use mathlib.Core.Path.{_≡_, refl, _∙_}
 use Prim.Native.Nat.{_+_, _-_, _≤_}
 use native.Mathlib.Omega.{arith}
-use lib.ListN.{length, take, drop, length-drop}
+use lib.ListN.{length, drop, length-drop}
 use borrow.Author.Needs.{needs}
 use Rattle.plan.specs.declared.Plan.{Plan}
 use Rattle.step.specs.Lent.{Lent}
 use Rattle.line.proofs.Parts.{to-end}
-use Rattle.run.specs.Fed.{atOf, takenOf, pieceTaken}
+use Rattle.run.specs.Fed.{lineTaken, firstLine, atOf, takenOf, pieceTaken}
 use Rattle.run.proofs.LineLoop.{fromPlace, place-start, place-end, place-on, place-stop, turn-lent}
 use Rattle.run.proofs.stream.feed.Statement.{statement}
 use Rattle.run.proofs.stream.feed.Tie as tie
-use Rattle.run.proofs.stream.feed.Reads as reads
-use Rattle.run.proofs.stream.feed.Lts as lts
-use Rattle.run.proofs.stream.feed_line.Reads as feed-line-reads
 
 abbrev Inv-loop : tie.InvT-loop
 Inv-loop rows lengths piece out₀ fill stream₀ at₀ filled₀ out stream at filled =
@@ -25,23 +23,9 @@ Inv-loop rows lengths piece out₀ fill stream₀ at₀ filled₀ out stream at 
 abbrev μ-loop : tie.MeasureT-loop
 μ-loop rows lengths piece out₀ fill stream₀ at₀ filled₀ out stream at filled = length piece - at
 
--- src/stream.rt:207:5
 loop-holds : tie.Need-loop-holds Inv-loop μ-loop
 loop-holds c = (omega arith, refl, λ h. h, λ p l. (l, place-start p _ _ _ _))
 
--- src/stream.rt:208:50
-sub-feed-line : tie.Need-sub-feed-line Inv-loop μ-loop
-sub-feed-line c = omega arith
-
--- src/stream.rt:208:50
-part-feed-line-start : tie.Need-part-feed-line-start Inv-loop μ-loop
-part-feed-line-start c = omega arith
-
--- src/stream.rt:208:50
-part-feed-line-end : tie.Need-part-feed-line-end Inv-loop μ-loop
-part-feed-line-end c = omega arith
-
--- src/stream.rt:208:13
 feed-line-requires : tie.Need-feed-line-requires Inv-loop μ-loop
 feed-line-requires c κs = rw (to-end _ _) (omega (arith, length-drop (c .before .before .before .loop .at) (c .before .before .before .before .before .before .before .args .piece .now)))
 
@@ -67,11 +51,6 @@ within c =
     let w = rw (to-end (a .piece .now) (l .at)) at (c .feed-line .ensures .0 .taken) in
     omega (arith, length-drop (l .at) (a .piece .now))
 
--- src/stream.rt:210:13
-same-length : tie.Need-same-length Inv-loop μ-loop
-same-length c = search needs
-
--- src/stream.rt:210:13
 returns : tie.Need-returns Inv-loop μ-loop
 unfolding takenOf
 returns c =
@@ -82,17 +61,14 @@ returns c =
       λ p h. place-stop p (atOf (l .stream)) (a .piece .now) (l .at) (l .out) (l .filled) (some t) (t .feed-line .result) _ (turn t p h) (c .if1 .taken) ∙ l .inv .3 p h .1,
     )
 
--- src/stream.rt:219:9
 add-at : tie.Need-add-at Inv-loop μ-loop
 add-at c =
     let g = c .before .before .before .before .before .before .before .before .before .before .before .before .before .before .good .1 .1 .1 .0 in
     omega (arith, within (c .before .before .before .before .before .before))
 
--- src/stream.rt:207:5
 loop-less : tie.Need-loop-less Inv-loop μ-loop
 loop-less c = omega (arith, c .before .before .if1 .left, within (c .before .before .before .before .before .before))
 
--- src/stream.rt:207:5
 loop-again : tie.Need-loop-again Inv-loop μ-loop
 unfolding atOf
 loop-again c =
@@ -111,11 +87,9 @@ loop-again c =
       ),
     )
 
--- src/stream.rt:194:1
 same-length-2 : tie.Need-same-length-2 Inv-loop μ-loop
 same-length-2 c = c .before .loop .inv .1
 
--- src/stream.rt:194:1
 returns-2 : tie.Need-returns-2 Inv-loop μ-loop
 unfolding takenOf
 returns-2 c =
@@ -132,11 +106,11 @@ feed-spec =
     Inv-loop
     μ-loop
     loop-holds
-    sub-feed-line
-    part-feed-line-start
-    part-feed-line-end
+    (λ c. omega arith)
+    (λ c. omega arith)
+    (λ c. omega arith)
     feed-line-requires
-    same-length
+    (λ c. search needs)
     returns
     add-at
     loop-less

@@ -1,9 +1,11 @@
+-- `run::stream::feed_line` meets its contract: the first line feed ends the line, or the piece ends within it.
 use mathlib.Core.Path.{_≡_, sym, ap, _∙_}
 use Prim.Native.Nat.{ℕ, _+_}
 use native.Mathlib.Nat.{zero-add}
 use native.Mathlib.Omega.{arith}
 use lib.ListN.{length, take, length-take}
 use lib.Seq.{length-take-le}
+use borrow.Author.Needs.{needs}
 use Rattle.text.specs.Lines.{lineFeed, until}
 use Rattle.text.proofs.Until.{until-le}
 use Rattle.text.proofs.Parted.{whole}
@@ -11,24 +13,9 @@ use Rattle.run.specs.Stream.{keeping}
 use Rattle.run.specs.Fed.{atOf, takenOf, lineTaken, firstLine}
 use Rattle.run.proofs.WholeLines.{inside-taken}
 use Rattle.run.proofs.FirstLines.{first-ended, first-whole}
-use borrow.Author.Needs.{needs}
 use Rattle.run.proofs.stream.feed_line.Statement.{statement}
 use Rattle.run.proofs.stream.feed_line.Tie as tie
-use Rattle.run.proofs.stream.feed_line.Reads as reads
-use Rattle.run.proofs.stream.feed_line.Lts as lts
-use Rattle.run.proofs.stream.end_line.Reads as end-line-reads
-use Rattle.run.proofs.stream.keep.Reads as keep-reads
-use Rattle.text.proofs.find.Reads as find-reads
 
--- src/stream.rt:176:9
-find-requires : tie.Need-find-requires
-find-requires c κs = search needs
-
--- src/stream.rt:178:51
-add-end-line : tie.Need-add-end-line
-add-end-line c = search needs
-
--- src/stream.rt:178:43
 -- where the line feed was found, or the end
 found : (c : tie.After-find) → c .find .result ≡ until lineFeed (c .before .before .before .before .args .rest .now)
 found c = c .find .ensures ∙ zero-add _
@@ -36,18 +23,12 @@ found c = c .find .ensures ∙ zero-add _
 slice-aggregate-end-line : tie.Need-slice-aggregate-end-line
 slice-aggregate-end-line c = sym (length-take-le _ _ (omega arith))
 
--- src/stream.rt:178:9
 end-line-requires : tie.Need-end-line-requires
 unfolding firstLine
 end-line-requires c κs =
     let e = found (c .before .before .before) in
     rw e (first-ended (c .before .before .before .before .before .before .before .args .rest .now) (omega arith))
 
--- src/stream.rt:178:9
-same-length : tie.Need-same-length
-same-length c = search needs
-
--- src/stream.rt:178:9
 returns : tie.Need-returns
 unfolding firstLine
 returns c =
@@ -59,11 +40,6 @@ returns c =
       λ p l. q .end-line .ensures .1 p l ∙ ap (λ (k : ℕ). lineTaken p (atOf (a .s)) (take (k + 1) (a .rest .now)) (a .out .now) (a .fill)) e,
     )
 
--- src/stream.rt:186:19
-keep-requires : tie.Need-keep-requires
-keep-requires c κs = search needs
-
--- src/stream.rt:165:1
 returns-2 : tie.Need-returns-2
 unfolding takenOf atOf keeping
 returns-2 c =
@@ -80,11 +56,11 @@ pub feed-line-spec : {M : Type 1} → statement M
 feed-line-spec =
     tie.close
     (tie.spec
-    find-requires
-    add-end-line
+    (λ c κs. search needs)
+    (λ c. search needs)
     slice-aggregate-end-line
     end-line-requires
-    same-length
+    (λ c. search needs)
     returns
-    keep-requires
+    (λ c κs. search needs)
     returns-2)

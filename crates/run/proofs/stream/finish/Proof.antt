@@ -1,28 +1,19 @@
+-- `run::stream::finish` meets its contract: nothing is kept, or no more lines are answered, or the kept bytes are the last line.
 use mathlib.Core.Path.{_≡_, sym, ap, _∙_}
 use Prim.Native.Nat.{ℕ, _≤_}
 use native.Mathlib.Omega.{arith}
 use lib.ListN.{length, take, length-take}
 use lib.Seq.{length-take-le}
 use borrow.Author.Tests.{le-leb, lt-leb}
+use borrow.Author.Needs.{needs}
 use Rattle.plan.specs.declared.Plan.{Plan}
-use Rattle.line.specs.declared.Filled.the-variants.{Fill, NoRoom}
-use Rattle.run.specs.Stream.{At, isGoing, linePrinted, endPrinted}
+use Rattle.run.specs.Stream.{isGoing, linePrinted, endPrinted}
 use Rattle.run.specs.Fed.{keptOf, atOf, wholeLine}
 use Rattle.run.proofs.KeptBytes.{take-length-take, none-of}
 use Rattle.run.proofs.TakenLines.{fill-quiet, out-quiet, end-empty, end-over, end-some, end-none, end-room}
-use borrow.Author.Needs.{needs}
 use Rattle.run.proofs.stream.finish.Statement.{statement}
 use Rattle.run.proofs.stream.finish.Tie as tie
-use Rattle.run.proofs.stream.finish.Reads as reads
-use Rattle.run.proofs.stream.finish.Lts as lts
-use Rattle.run.proofs.lines.line_step.Reads as line-step-reads
-use Rattle.run.proofs.stream.size_of.Reads as size-of-reads
 
--- src/stream.rt:234:9
-size-of-requires : tie.Need-size-of-requires
-size-of-requires c κs = search needs
-
--- src/stream.rt:237:9
 returns : tie.Need-returns
 unfolding atOf
 returns c =
@@ -33,17 +24,15 @@ returns c =
       λ p l. rw (end-empty p (atOf (a .s)) (none-of _ z), fill-quiet (a .out .now) (a .fill), out-quiet (a .out .now) (a .fill)) (search needs),
     )
 
--- src/stream.rt:240:9
 returns-2 : tie.Need-returns-2
 unfolding atOf isGoing
 returns-2 c =
     let a = c .before .before .before .before .before .before .args in (
       λ n q h. let k : a .fill ≡ n = cc in omega arith,
       λ p l.
-          rw (end-over p (atOf (a .s)) (lt-leb (a .s .number) 9999999 (c .if2 .taken)), fill-quiet (a .out .now) (a .fill), out-quiet (a .out .now) (a .fill)) (search needs),
+          rw (end-over p (atOf (a .s)) (lt-leb (a .s .number) 9999999 (omega (arith, c .if2 .taken))), fill-quiet (a .out .now) (a .fill), out-quiet (a .out .now) (a .fill)) (search needs),
     )
 
--- src/stream.rt:244:53
 -- what is kept lies within its bytes
 few : (c : tie.After-size-of) → c .size-of .result ≤ length (c .before .before .before .before .args .s .kept .bytes)
 unfolding keptOf
@@ -62,19 +51,9 @@ last c h p =
 array-share-prefix-bytes : tie.Need-array-share-prefix-bytes
 array-share-prefix-bytes c = few (c .before .before .before .before)
 
--- src/stream.rt:244:53
 slice-aggregate-line-step : tie.Need-slice-aggregate-line-step
 slice-aggregate-line-step c = sym (length-take-le _ _ (few (c .before .before .before .before .before)))
 
--- src/stream.rt:244:9
-line-step-requires : tie.Need-line-step-requires
-line-step-requires c κs = search needs
-
--- src/stream.rt:246:9
-same-length : tie.Need-same-length
-same-length c = search needs
-
--- src/stream.rt:246:9
 returns-3 : tie.Need-returns-3
 unfolding atOf isGoing
 returns-3 c =
@@ -85,14 +64,9 @@ returns-3 c =
       λ p l.
           let e = q .line-step .ensures .1 p l in
           rw (last n (q .before .before .before .before .before .before .if1 .left) p)
-          (end-none p (atOf (a .s)) _ 0 (a .out .now) (a .fill) (le-leb (a .s .number) 9999999 (q .before .before .before .before .before .if2 .left)) (e .0) (e .1) (c .if3 .taken)),
+          (end-none p (atOf (a .s)) _ 0 (a .out .now) (a .fill) (le-leb (a .s .number) 9999999 (omega (arith, q .before .before .before .before .before .if2 .left))) (e .0) (e .1) (c .if3 .taken)),
     )
 
--- src/stream.rt:229:1
-same-length-2 : tie.Need-same-length-2
-same-length-2 c = search needs
-
--- src/stream.rt:229:1
 returns-4 : tie.Need-returns-4
 unfolding atOf isGoing
 returns-4 c =
@@ -103,20 +77,20 @@ returns-4 c =
       λ p l.
           let e = q .line-step .ensures .1 p l in
           rw (last n (q .before .before .before .before .before .before .if1 .left) p)
-          (end-room p (atOf (a .s)) _ 0 (a .out .now) (a .fill) (le-leb (a .s .number) 9999999 (q .before .before .before .before .before .if2 .left)) (e .0) (e .1) (c .if3 .left)),
+          (end-room p (atOf (a .s)) _ 0 (a .out .now) (a .fill) (le-leb (a .s .number) 9999999 (omega (arith, q .before .before .before .before .before .if2 .left))) (e .0) (e .1) (c .if3 .left)),
     )
 
 pub finish-spec : {M : Type 1} → statement M
 finish-spec =
     tie.close
     (tie.spec
-    size-of-requires
+    (λ c κs. search needs)
     returns
     returns-2
     array-share-prefix-bytes
     slice-aggregate-line-step
-    line-step-requires
-    same-length
+    (λ c κs. search needs)
+    (λ c. search needs)
     returns-3
-    same-length-2
+    (λ c. search needs)
     returns-4)

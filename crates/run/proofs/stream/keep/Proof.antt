@@ -1,3 +1,5 @@
+-- `run::stream::keep` meets its contract. The loop's invariant: the first n + i bytes are those kept before and the first i of the part. The measure is
+-- what is left to copy.
 use mathlib.Core.Path.{_≡_, _∙_}
 use mathlib.Core.List.{_++_, append-nil}
 use Prim.Native.Nat.{_+_, _-_, _≤_}
@@ -9,10 +11,6 @@ use Rattle.run.specs.Fed.{keptOf}
 use Rattle.run.proofs.KeptBytes.{kept-more, kept-next}
 use Rattle.run.proofs.stream.keep.Statement.{statement}
 use Rattle.run.proofs.stream.keep.Tie as tie
-use Rattle.run.proofs.stream.keep.Reads as reads
-use Rattle.run.proofs.stream.keep.Lts as lts
-use Rattle.run.proofs.stream.least.Reads as least-reads
-use Rattle.run.proofs.stream.size_of.Reads as size-of-reads
 
 abbrev Inv-loop : tie.InvT-loop
 Inv-loop part bytes₀ n count i₀ bytes i = (take (n + i) bytes ≡ take n bytes₀ ++ take i part) × (length bytes ≡ 20) × (i ≤ count)
@@ -27,20 +25,11 @@ few c =
     let h : length (c .before .before .before .args .k .bytes) ≡ 20 = search needs in
     omega (arith, length-take (c .before .before .before .args .k .length) (c .before .before .before .args .k .bytes))
 
-size-of-requires : tie.Need-size-of-requires Inv-loop μ-loop
-size-of-requires c κs = search needs
-
 sub-least : tie.Need-sub-least Inv-loop μ-loop
 sub-least c = few c
 
-least-requires : tie.Need-least-requires Inv-loop μ-loop
-least-requires c κs = search needs
-
 loop-holds : tie.Need-loop-holds Inv-loop μ-loop
 loop-holds c = (rw (add-zero, append-nil), search needs, omega arith)
-
-shared-slice-read-bytes : tie.Need-shared-slice-read-bytes Inv-loop μ-loop
-shared-slice-read-bytes c = omega arith
 
 add-bytes : tie.Need-add-bytes Inv-loop μ-loop
 add-bytes c = omega (arith, few (c .before .before .before .before))
@@ -50,9 +39,6 @@ array-write-bytes c = omega (arith, few (c .before .before .before .before))
 
 add-i : tie.Need-add-i Inv-loop μ-loop
 add-i c = omega (arith, few (c .before .before .before .before))
-
-loop-less : tie.Need-loop-less Inv-loop μ-loop
-loop-less c = omega arith
 
 loop-again : tie.Need-loop-again Inv-loop μ-loop
 loop-again c =
@@ -85,15 +71,15 @@ keep-spec =
     (tie.spec
     Inv-loop
     μ-loop
-    size-of-requires
+    (λ c κs. search needs)
     sub-least
-    least-requires
+    (λ c κs. search needs)
     loop-holds
-    shared-slice-read-bytes
+    (λ c. omega arith)
     add-bytes
     array-write-bytes
     add-i
-    loop-less
+    (λ c. omega arith)
     loop-again
     add-t7
     cast-t16
