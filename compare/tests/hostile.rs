@@ -107,8 +107,9 @@ impl Arena {
         let got = proved(self.proved.as_mut_ptr());
         let expected = second(&mut self.second);
         assert_eq!(got, expected, "number of {name}");
-        if let Some(place) = (0..end).find(|&place| self.proved[place] != self.second[place]) {
-            panic!("{name} gave {got}: byte {place} of the arena differs");
+        if self.proved[..end] != self.second[..end] || self.proved[end..] != self.guards[end..] {
+            let place = (0..end).find(|&place| self.proved[place] != self.second[place]);
+            panic!("{name} gave {got}: the arena differs, first at {place:?} of {end}");
         }
         *self.tally.entry(name).or_default().entry(got).or_insert(0) += 1;
         got
