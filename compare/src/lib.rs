@@ -2,7 +2,8 @@
 //!
 //! Nothing checks these declarations against the proved source; `include/skrzypolot.h` has the same list for C.
 
-mod c {
+/// The calls as a host in C sees them.
+pub mod c {
     extern "C" {
         pub fn skrzypolot_read(
             text: *const u8,
