@@ -26,7 +26,7 @@ few c =
     omega (arith, length-take (c .before .before .before .args .k .length) (c .before .before .before .args .k .bytes))
 
 sub-least : tie.Need-sub-least Inv-loop μ-loop
-sub-least c = few c
+sub-least c = omega (arith, few c)
 
 loop-holds : tie.Need-loop-holds Inv-loop μ-loop
 loop-holds c = (rw (add-zero, append-nil), search needs, omega arith)
