@@ -1,13 +1,14 @@
 -- Laws of what is said of a line: how the order of the table is followed.
-use mathlib.Core.Path.{_≡_}
+use mathlib.Core.Path.{_≡_, refl}
 use mathlib.Core.Bool.{Bool, true, false, or-true}
-use mathlib.Core.List.{[], _∷_}
+use mathlib.Core.List.{List, [], _∷_}
 use Prim.Native.Nat.{ℕ, _≤_, _<_}
 use lib.Dec.{leb}
 use borrow.Author.Tests.{le-leb, lt-leb}
 use Rattle.below.specs.Below.{any}
 use Rattle.plan.specs.declared.Plan.{Plan}
-use Rattle.plan.specs.Plan.{isGlobal, declares, lengthOf, owner}
+use Rattle.plan.specs.Plan.{budget, isGlobal, declares, lengthOf, owner}
+use Rattle.plan.specs.Lent.{lent}
 use Rattle.reader.specs.declared.Verdict.the-variants.{NotGrammar, KindOrder, NoSuchRow, OutOfRange, Twice, TwoSubsystems, AboveBudget}
 use Rattle.reader.specs.declared.Line.{Line}
 use Rattle.reader.specs.declared.Line.the-variants.{Uses}
@@ -29,14 +30,25 @@ module _ (p : Plan) (last n : ℕ) (l : Line) where
   unfolding judged judgedRows firstOf
   judged-rows e o = rw (judged, e, o)
 
--- the tests of a U line
-pub use-tests : (p : Plan) (n t r l : ℕ) {a b c d e : Bool}
-    → noSuchRow p (Uses t r l) ≡ a → outOfRange p (Uses t r l) ≡ b → declares p t r ≡ c → twoSubsystems p (Uses t r l) ≡ d → aboveBudget p (Uses t r l) ≡ e
-    → judgedRows p n (Uses t r l)
-    ≡ firstOf ((a, NoSuchRow n) ∷ (b, OutOfRange n) ∷ (c, Twice n) ∷ (d, TwoSubsystems n) ∷ (e, AboveBudget n) ∷ [])
-unfolding judgedRows firstOf tooManyRows twice
-use-tests p n t r l i j k m o =
-    λ x. firstOf ((i x, NoSuchRow n) ∷ (j x, OutOfRange n) ∷ (k x, Twice n) ∷ (m x, TwoSubsystems n) ∷ (o x, AboveBudget n) ∷ [])
+-- the tests of a U line, each over the tables that it reads
+module _ (tasks resources : ℕ) (budgets owners kinds lengths : List ℕ) where
+  pub use-tests : (n t r l : ℕ) {a b c d e : Bool}
+      → noSuchRow (lent 0 tasks resources [] budgets owners kinds lengths) (Uses t r l) ≡ a
+      → outOfRange (lent 0 0 0 [] [] [] kinds []) (Uses t r l) ≡ b
+      → declares (lent 0 0 0 [] [] [] [] lengths) t r ≡ c
+      → twoSubsystems (lent 0 tasks 0 [] [] owners kinds lengths) (Uses t r l) ≡ d
+      → aboveBudget (lent 0 0 0 [] budgets owners [] []) (Uses t r l) ≡ e
+      → judgedRows (lent 0 tasks resources [] budgets owners kinds lengths) n (Uses t r l)
+      ≡ firstOf ((a, NoSuchRow n) ∷ (b, OutOfRange n) ∷ (c, Twice n) ∷ (d, TwoSubsystems n) ∷ (e, AboveBudget n) ∷ [])
+  unfolding judgedRows firstOf tooManyRows twice outOfRange isGlobal declares lengthOf twoSubsystems owner aboveBudget budget
+  use-tests n t r l i j k m o =
+      λ x. firstOf ((i x, NoSuchRow n) ∷ (j x, OutOfRange n) ∷ (k x, Twice n) ∷ (m x, TwoSubsystems n) ∷ (o x, AboveBudget n) ∷ [])
+
+-- a U line reads neither the number of subsystems nor a period
+pub use-of : (p : Plan) (n t r l : ℕ)
+    → judgedRows (lent 0 (p .tasks) (p .resources) [] (p .budgets) (p .owners) (p .kinds) (p .lengths)) n (Uses t r l) ≡ judgedRows p n (Uses t r l)
+unfolding judgedRows tooManyRows noSuchRow outOfRange isGlobal twice declares lengthOf twoSubsystems owner aboveBudget budget
+use-of p n t r l = refl
 
 -- 24: the task, the resource, or neither is missing
 module _ (p : Plan) (t r l : ℕ) where

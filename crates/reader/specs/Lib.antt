@@ -5,4 +5,5 @@ pub mod Reading
 pub mod Margin
 pub mod Pair
 pub mod Judged
+pub mod Parts
 pub mod Room

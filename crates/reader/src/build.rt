@@ -1,25 +1,55 @@
-// "The plan text": rows count from 0 in the order of their lines. The plan grows by a line that was accepted.
+// "The plan text": rows count from 0 in the order of their lines. The plan grows by a line that was accepted: its rows go by value, its lengths stand
+// in one table that is altered in place.
 ghost use mathlib.Core.Path.{_≡_};
-ghost use Prim.Native.Nat.{_≤_, _<_};
+ghost use mathlib.Core.List.{List};
+ghost use Prim.Native.Nat.{ℕ, _≤_, _<_};
+ghost use lib.ListN.{length, set, replicate};
 ghost use Rattle.plan.specs.Limits.{mostSubsystems, mostTasks, mostResources};
-ghost use Rattle.reader.specs.Reading.{emptyPlan, opened, withSubsystem, withTask, withResource, withUse, withLine};
+ghost use Rattle.plan.specs.Plan.{place};
+ghost use Rattle.reader.specs.Reading.{emptyPlan, opened, withSubsystem, withTask, withResource, withLine};
+ghost use Rattle.reader.specs.Parts.{places, planOf};
 ghost use Rattle.reader.specs.Room.{Room};
 use crate::Line;
 use plan::Plan;
 
-// The plan of no line at all.
-pub fn empty_plan() -> Plan
-    ensures { λ r. ⌜ r ≡ emptyPlan ⌝ }
+// A plan without its lengths.
+pub struct Tables {
+    pub subsystems: u8,
+    pub tasks: u8,
+    pub resources: u8,
+    pub periods: [u16; 8],
+    pub budgets: [u16; 8],
+    pub owners: [u8; 32],
+    pub kinds: [u8; 16],
+}
+
+// The rows of no line at all.
+pub fn no_rows() -> Tables
+    ensures { λ r. ⌜ planOf r (replicate places 0) ≡ emptyPlan ⌝ }
 {
-    let periods = [0u16; 8];
-    let budgets = [0u16; 8];
-    let owners = [0u8; 32];
-    let kinds = [0u8; 16];
-    let lengths = [0u16; 512];
-    Plan {
+    Tables {
         subsystems: 0,
         tasks: 0,
         resources: 0,
+        periods: [0; 8],
+        budgets: [0; 8],
+        owners: [0; 32],
+        kinds: [0; 16],
+    }
+}
+
+// Rows and lengths in one.
+pub fn plan_of(t: Tables, lengths: [u16; 512]) -> Plan
+    ensures { λ r. ⌜ r ≡ planOf t lengths ⌝ }
+{
+    let periods = t.periods;
+    let budgets = t.budgets;
+    let owners = t.owners;
+    let kinds = t.kinds;
+    Plan {
+        subsystems: t.subsystems,
+        tasks: t.tasks,
+        resources: t.resources,
         periods,
         budgets,
         owners,
@@ -28,82 +58,89 @@ pub fn empty_plan() -> Plan
     }
 }
 
-// S
-fn with_subsystem(mut p: Plan, period: u16, budget: u16) -> Plan
-    requires { ⌜ p .subsystems < mostSubsystems ⌝ }
-    ensures { λ r. ⌜ r ≡ withSubsystem p period budget ⌝ }
+// The plan of no line at all.
+pub fn empty_plan() -> Plan
+    ensures { λ r. ⌜ r ≡ emptyPlan ⌝ }
 {
-    let i = p.subsystems as usize;
-    p.periods[i] = period;
-    p.budgets[i] = budget;
-    p.subsystems += 1;
-    p
+    let lengths = [0u16; 512];
+    plan_of(no_rows(), lengths)
+}
+
+// S
+fn with_subsystem(mut t: Tables, period: u16, budget: u16) -> Tables
+    requires { ⌜ t .subsystems < mostSubsystems ⌝ }
+    ensures { λ r. ⌜ ((ls : List ℕ) → planOf r ls ≡ withSubsystem (planOf t ls) period budget) ⌝ }
+{
+    let i = t.subsystems as usize;
+    t.periods[i] = period;
+    t.budgets[i] = budget;
+    t.subsystems += 1;
+    t
 }
 
 // T
-fn with_task(mut p: Plan, subsystem: u8) -> Plan
-    requires { ⌜ p .tasks < mostTasks ⌝ }
-    ensures { λ r. ⌜ r ≡ withTask p subsystem ⌝ }
+fn with_task(mut t: Tables, subsystem: u8) -> Tables
+    requires { ⌜ t .tasks < mostTasks ⌝ }
+    ensures { λ r. ⌜ ((ls : List ℕ) → planOf r ls ≡ withTask (planOf t ls) subsystem) ⌝ }
 {
-    let i = p.tasks as usize;
-    p.owners[i] = subsystem;
-    p.tasks += 1;
-    p
+    let i = t.tasks as usize;
+    t.owners[i] = subsystem;
+    t.tasks += 1;
+    t
 }
 
-// A new resource is undeclared by each task.
-fn open(lengths: [u16; 512], tasks: u8, r: u8) -> [u16; 512]
-    requires { ⌜ (tasks ≤ mostTasks) × (r < mostResources) ⌝ }
-    ensures { λ ls. ⌜ ls ≡ opened tasks r lengths ⌝ }
+// R, its row
+fn with_resource(mut t: Tables, kind: u8) -> Tables
+    requires { ⌜ t .resources < mostResources ⌝ }
+    ensures { λ r. ⌜ ((ls : List ℕ) → planOf r (opened (t .tasks) (t .resources) ls) ≡ withResource (planOf t ls) kind) ⌝ }
 {
-    let mut ls = lengths;
+    let i = t.resources as usize;
+    t.kinds[i] = kind;
+    t.resources += 1;
+    t
+}
+
+// R, its lengths: a new resource is undeclared by each task.
+fn open(lengths: &mut [u16], tasks: u8, r: u8)
+    requires { ⌜ (length (now lengths) ≡ places) × (tasks ≤ mostTasks) × (r < mostResources) ⌝ }
+    ensures { λ _. ⌜ now (lengths .exit) ≡ opened tasks r (now (lengths .entry)) ⌝ }
+{
     let mut t: u8 = 0;
     while t < tasks {
         let i = (t as usize) * 16 + (r as usize);
-        ls[i] = 65535;
+        lengths[i] = 65535;
         t += 1;
     }
-    ls
-}
-
-// R
-fn with_resource(mut p: Plan, kind: u8) -> Plan
-    requires { ⌜ (p .resources < mostResources) × (p .tasks ≤ mostTasks) ⌝ }
-    ensures { λ r. ⌜ r ≡ withResource p kind ⌝ }
-{
-    let r = p.resources;
-    let i = r as usize;
-    p.kinds[i] = kind;
-    let lengths = p.lengths;
-    let opened = open(lengths, p.tasks, r);
-    p.lengths = opened;
-    p.resources += 1;
-    p
 }
 
 // U
-fn with_use(mut p: Plan, task: u32, resource: u32, length: u16) -> Plan
-    requires { ⌜ (task < mostTasks) × (resource < mostResources) ⌝ }
-    ensures { λ r. ⌜ r ≡ withUse p task resource length ⌝ }
+fn put_use(lengths: &mut [u16], task: u32, resource: u32, ticks: u16)
+    requires { ⌜ (length (now lengths) ≡ places) × (task < mostTasks) × (resource < mostResources) ⌝ }
+    ensures { λ _. ⌜ now (lengths .exit) ≡ set (now (lengths .entry)) (place task resource) ticks ⌝ }
 {
     let i = (task as usize) * 16 + (resource as usize);
-    p.lengths[i] = length;
-    p
+    lengths[i] = ticks;
 }
 
-pub fn with_line(p: Plan, l: Line) -> Plan
-    requires { ⌜ Room p l ⌝ }
-    ensures { λ r. ⌜ r ≡ withLine p l ⌝ }
+pub fn with_line(t: Tables, lengths: &mut [u16], l: Line) -> Tables
+    requires { ⌜ (length (now lengths) ≡ places) × Room (planOf t (now lengths)) l ⌝ }
+    ensures { λ r. ⌜ planOf r (now (lengths .exit)) ≡ withLine (planOf t (now (lengths .entry))) l ⌝ }
 {
     match l {
-        Line::Subsystem { period, budget } => with_subsystem(p, period as u16, budget as u16),
-        Line::Task { subsystem } => with_task(p, subsystem as u8),
-        Line::Resource { kind } => with_resource(p, kind),
+        Line::Subsystem { period, budget } => with_subsystem(t, period as u16, budget as u16),
+        Line::Task { subsystem } => with_task(t, subsystem as u8),
+        Line::Resource { kind } => {
+            open(lengths, t.tasks, t.resources);
+            with_resource(t, kind)
+        }
         Line::Uses {
             task,
             resource,
             length,
-        } => with_use(p, task, resource, length as u16),
-        Line::Malformed => p,
+        } => {
+            put_use(lengths, task, resource, length as u16);
+            t
+        }
+        Line::Malformed => t,
     }
 }

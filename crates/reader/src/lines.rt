@@ -7,6 +7,8 @@ ghost use Rattle.reader.specs.Reading.{mostBytes, emptyPlan, refused, re
 use crate::Reading;
 use crate::Verdict;
 use crate::build::empty_plan;
+use crate::build::no_rows;
+use crate::build::plan_of;
 use crate::build::with_line;
 use crate::grammar::kind_of;
 use crate::grammar::line_of;
@@ -23,12 +25,13 @@ pub fn refuse(v: Verdict) -> Reading
     Reading { verdict: v, plan }
 }
 
-// One pass over the text: each line is found, read, judged and added. A line without its line feed is malformed, and so judged 21.
+// One pass over the text: each line is found, read, judged and added, the lengths in place. A line without its line feed is malformed, and so judged 21.
 pub fn read_lines(text: &[u8]) -> Reading
     requires { ⌜ length (now text) ≤ mostBytes ⌝ }
     ensures { λ r. ⌜ r ≡ readFrom (lines (now (text .entry))) 1 0 emptyPlan ⌝ }
 {
-    let mut p = empty_plan();
+    let mut t = no_rows();
+    let mut lengths = [0u16; 512];
     let mut last: u8 = 0;
     let mut n: u32 = 1;
     let mut at: usize = 0;
@@ -38,17 +41,18 @@ pub fn read_lines(text: &[u8]) -> Reading
             return refuse(Verdict::NotGrammar(n));
         }
         let l = line_of(&text[at..end]);
-        let v = judge(p, last, n, l);
+        let v = judge(t, &lengths, last, n, l);
         if !is_accepted(v) {
             return refuse(v);
         }
-        p = with_line(p, l);
+        t = with_line(t, &mut lengths, l);
         last = kind_of(l);
         n += 1;
         at = end + 1;
     }
+    let plan = plan_of(t, lengths);
     Reading {
         verdict: Verdict::Accepted,
-        plan: p,
+        plan,
     }
 }

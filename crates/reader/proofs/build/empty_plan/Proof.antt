@@ -1,12 +1,17 @@
--- `reader::build::empty_plan` meets its contract: its record is that of the definition.
-use mathlib.Core.Path.{refl}
-use Rattle.reader.specs.Reading.{emptyPlan}
+-- `reader::build::empty_plan` meets its contract: no rows and no lengths.
+use mathlib.Core.Path.{_∙_}
+use borrow.Author.Needs.{needs}
 use Rattle.reader.proofs.build.empty_plan.Statement.{statement}
 use Rattle.reader.proofs.build.empty_plan.Tie as tie
 
+no-rows-requires : tie.Need-no-rows-requires
+no-rows-requires c κs = search needs
+
+plan-of-requires : tie.Need-plan-of-requires
+plan-of-requires c κs = search needs
+
 returns : tie.Need-returns
-unfolding emptyPlan
-returns c = refl
+returns c = c .plan-of .ensures ∙ c .before .no-rows .ensures
 
 pub empty-plan-spec : {M : Type 1} → statement M
-empty-plan-spec = tie.close (tie.spec returns)
+empty-plan-spec = tie.close (tie.spec no-rows-requires plan-of-requires returns)

@@ -1,26 +1,27 @@
--- `reader::build::open` meets its contract. The loop's invariant: the tasks below `t` are done. The measure is what is left.
-use mathlib.Core.Path.{_≡_, refl, ap, _∙_}
+-- `reader::build::open` meets its contract. The loop's invariant: the tasks below `t` are done, and no place is lost. The measure is what is left.
+use mathlib.Core.Path.{_≡_, refl, sym, ap, _∙_}
 use mathlib.Core.List.{List}
 use Prim.Native.Nat.{ℕ, _+_, _*_, _-_, _≤_}
 use native.Mathlib.Numerals.{add-one}
 use native.Mathlib.Omega.{arith}
-use lib.ListN.{set}
+use lib.ListN.{length, set, length-set}
 use borrow.Author.Needs.{needs}
 use Rattle.plan.specs.Limits.{undeclared}
 use Rattle.plan.specs.Plan.{place}
 use Rattle.reader.specs.Reading.{opened}
+use Rattle.reader.specs.Parts.{places}
 use Rattle.reader.proofs.build.open.Statement.{statement}
 use Rattle.reader.proofs.build.open.Tie as tie
 
 abbrev Inv-loop : tie.InvT-loop
-Inv-loop tasks r ls₀ t₀ ls t = (ls ≡ opened t r ls₀) × (t ≤ tasks)
+Inv-loop lengths₀ tasks r t₀ lengths t = (lengths ≡ opened t r lengths₀) × (t ≤ tasks) × (length lengths ≡ places)
 
 abbrev μ-loop : tie.MeasureT-loop
-μ-loop tasks r ls₀ t₀ ls t = tasks - t
+μ-loop lengths₀ tasks r t₀ lengths t = tasks - t
 
 loop-holds : tie.Need-loop-holds Inv-loop μ-loop
 unfolding opened
-loop-holds c = (refl, search needs)
+loop-holds c = (refl, search needs, c .pre .0)
 
 cast-i : tie.Need-cast-i Inv-loop μ-loop
 cast-i c = search needs
@@ -31,11 +32,11 @@ mul-i c = search needs
 add-i : tie.Need-add-i Inv-loop μ-loop
 add-i c = search needs
 
-mul-ls : tie.Need-mul-ls Inv-loop μ-loop
-mul-ls c = search needs
+mul-lengths : tie.Need-mul-lengths Inv-loop μ-loop
+mul-lengths c = search needs
 
-array-write-ls : tie.Need-array-write-ls Inv-loop μ-loop
-array-write-ls c = search needs
+slice-write-lengths : tie.Need-slice-write-lengths Inv-loop μ-loop
+slice-write-lengths c = search needs
 
 add-t : tie.Need-add-t Inv-loop μ-loop
 add-t c = search needs
@@ -45,12 +46,15 @@ loop-less c = search needs
 
 loop-again : tie.Need-loop-again Inv-loop μ-loop
 unfolding opened place
-loop-again c = rw add-one (ap (λ (l : List ℕ). set l (c .before .loop .t * 16 + c .before .before .args .r) undeclared) (c .before .loop .inv .0), search needs)
+loop-again c = rw add-one (ap (λ (l : List ℕ). set l (c .before .loop .t * 16 + c .before .before .args .r) undeclared) (c .before .loop .inv .0), search needs, simp length-set (c .before .loop .inv .2))
+
+same-length : tie.Need-same-length Inv-loop μ-loop
+same-length c = c .before .loop .inv .2 ∙ sym (c .before .before .pre .0)
 
 returns : tie.Need-returns Inv-loop μ-loop
 returns c =
     let q : c .before .loop .t ≡ c .before .before .args .tasks = omega arith in
-    c .before .loop .inv .0 ∙ ap (λ (t : ℕ). opened t (c .before .before .args .r) (c .before .before .args .lengths)) q
+    c .before .loop .inv .0 ∙ ap (λ (t : ℕ). opened t (c .before .before .args .r) (c .before .before .args .lengths .now)) q
 
 pub open-spec : {M : Type 1} → statement M
 open-spec =
@@ -62,9 +66,10 @@ open-spec =
     cast-i
     mul-i
     add-i
-    mul-ls
-    array-write-ls
+    mul-lengths
+    slice-write-lengths
     add-t
     loop-less
     loop-again
+    same-length
     returns)

@@ -8,25 +8,25 @@ use Rattle.reader.proofs.build.with_subsystem.Tie as tie
 cast-i : tie.Need-cast-i
 cast-i c = search needs
 
-mul-p : tie.Need-mul-p
-mul-p c = search needs
+mul-t : tie.Need-mul-t
+mul-t c = search needs
 
-element-write-p : tie.Need-element-write-p
-element-write-p c = search needs
+element-write-t : tie.Need-element-write-t
+element-write-t c = search needs
 
-mul-p-2 : tie.Need-mul-p-2
-mul-p-2 c = search needs
+mul-t-2 : tie.Need-mul-t-2
+mul-t-2 c = search needs
 
-element-write-p-2 : tie.Need-element-write-p-2
-element-write-p-2 c = search needs
+element-write-t-2 : tie.Need-element-write-t-2
+element-write-t-2 c = search needs
 
-add-p : tie.Need-add-p
-add-p c = search needs
+add-t : tie.Need-add-t
+add-t c = search needs
 
 returns : tie.Need-returns
 unfolding withSubsystem
-returns c = refl
+returns c = λ ls. refl
 
 pub with-subsystem-spec : {M : Type 1} → statement M
 with-subsystem-spec =
-    tie.close (tie.spec cast-i mul-p element-write-p mul-p-2 element-write-p-2 add-p returns)
+    tie.close (tie.spec cast-i mul-t element-write-t mul-t-2 element-write-t-2 add-t returns)

@@ -8,15 +8,15 @@ use Rattle.reader.proofs.build.with_task.Tie as tie
 cast-i : tie.Need-cast-i
 cast-i c = search needs
 
-element-write-p : tie.Need-element-write-p
-element-write-p c = search needs
+element-write-t : tie.Need-element-write-t
+element-write-t c = search needs
 
-add-p : tie.Need-add-p
-add-p c = search needs
+add-t : tie.Need-add-t
+add-t c = search needs
 
 returns : tie.Need-returns
 unfolding withTask
-returns c = refl
+returns c = λ ls. refl
 
 pub with-task-spec : {M : Type 1} → statement M
-with-task-spec = tie.close (tie.spec cast-i element-write-p add-p returns)
+with-task-spec = tie.close (tie.spec cast-i element-write-t add-t returns)

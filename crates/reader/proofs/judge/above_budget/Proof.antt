@@ -19,7 +19,7 @@ cast-result c = search needs
 
 returns : tie.Need-returns
 unfolding aboveBudget budget owner
-returns c = λ s. rw (c .word-at .ensures, c .before .before .before .before .byte-at .ensures)
+returns c = λ s. rw (c .word-at .ensures, c .before .byte-at .ensures)
 
 pub above-budget-spec : {M : Type 1} → statement M
 above-budget-spec =

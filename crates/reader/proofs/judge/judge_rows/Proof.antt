@@ -4,6 +4,8 @@ use borrow.Author.Needs.{needs}
 use Rattle.reader.specs.Conditions.{tooManyRows, noSuchRow, outOfRange, twice, twoSubsystems, aboveBudget}
 use Rattle.reader.specs.Reading.{firstOf}
 use Rattle.reader.specs.Judged.{judgedRows}
+use Rattle.reader.specs.Parts.{planOf}
+use Rattle.reader.proofs.Judged.{use-of}
 use Rattle.reader.proofs.judge.judge_rows.Statement.{statement}
 use Rattle.reader.proofs.judge.judge_rows.Tie as tie
 
@@ -44,11 +46,11 @@ returns-3 : tie.Need-returns-3
 returns-3 c = c .judge-resource .ensures _ refl ∙ sym (ap (judgedRows _ _) (c .before .before .l3 .given .1))
 
 returns-4 : tie.Need-returns-4
-returns-4 c = c .judge-use .ensures ∙ sym (ap (judgedRows _ _) (c .before .before .l4 .given .1))
+returns-4 c = c .judge-use .ensures ∙ use-of (planOf _ _) _ _ _ _ ∙ sym (ap (judgedRows _ _) (c .before .before .before .before .before .before .before .before .before .l4 .given .1))
 
 returns-5 : tie.Need-returns-5
 unfolding judgedRows firstOf tooManyRows noSuchRow outOfRange twice twoSubsystems aboveBudget
-returns-5 c = sym (ap (judgedRows (c .before .before .args .p) (c .before .before .args .n)) (c .enum-told .given .1))
+returns-5 c = sym (ap (judgedRows (planOf (c .before .before .before .args .t1) (c .before .before .before .args .lengths .now)) (c .before .before .before .args .n)) (c .enum-told .given .1))
 
 pub judge-rows-spec : {M : Type 1} → statement M
 judge-rows-spec =

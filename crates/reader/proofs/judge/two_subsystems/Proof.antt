@@ -24,7 +24,7 @@ returns-2 : tie.Need-returns-2
 unfolding isGlobal owner
 returns-2 c = λ l.
     c .apart .ensures
-    ∙ sym (two-apart _ _ _ l (ne-eqb _ 1 (λ q. c .before .before .before .before .before .before .before .before .before .before .if1 .left (c .before .before .before .before .before .before .before .before .before .before .before .byte-at .ensures ∙ q))) (c .before .before .before .before .before .before .byte-at2 .ensures))
+    ∙ sym (two-apart _ _ _ l (ne-eqb _ 1 (λ q. c .before .before .if1 .left (c .before .before .before .byte-at .ensures ∙ q))) (c .before .byte-at2 .ensures))
 
 pub two-subsystems-spec : {M : Type 1} → statement M
 two-subsystems-spec =
