@@ -26,7 +26,8 @@ use Rattle.line.specs.Run.{printedRun, run}
 use Rattle.line.proofs.Room.{fill-room, fill-within}
 use Rattle.run.specs.declared.stream.Stream.{Stream}
 use Rattle.run.specs.declared.stream.Fed.{Fed}
-use Rattle.run.specs.Stream.{At, start, fed, fedPrinted, endPrinted, piecesPrinted, joined}
+use Rattle.run.specs.Stream.{At, start, fed, fedPrinted, endPrinted, piecesPrinted}
+use Rattle.run.specs.AsFar.{inOne}
 use Rattle.run.specs.Fed.{Taken, Within, atOf, takenOf, pieceTaken}
 use Rattle.run.proofs.FirstLines.{fed-lent}
 use Rattle.run.proofs.Pieces.{pieces-run}
@@ -69,7 +70,7 @@ module _ (p : Plan) (A : Accepted p) (s : Stream) (rows : Rows) (b : atOf s ≡ 
 
 -- what one piece and its end print is what the whole text prints
 text-is : (p : Plan) (events : List ℕ) → fedPrinted p (start p) events ++ endPrinted p (fed p (start p) events) ≡ printedRun p events
-unfolding piecesPrinted joined
+unfolding piecesPrinted inOne
 text-is p events = pieces-run p (events ∷ []) ∙ ap (printedRun p) (append-nil events)
 
 -- all was taken of the events, and then of their end

@@ -12,7 +12,8 @@ use Rattle.text.specs.Lines.{lineFeed, onto, lines}
 use Rattle.plan.specs.declared.Plan.{Plan}
 use Rattle.line.specs.Filled.{hasRoom, outAfter}
 use Rattle.line.proofs.Room as room
-use Rattle.run.specs.Stream.{At, fed, fedPrinted, joined}
+use Rattle.run.specs.Stream.{At, fed, fedPrinted}
+use Rattle.run.specs.AsFar.{inOne}
 use Rattle.run.specs.Fed.{Taken, nothing, behind, linesTaken, pieceTaken}
 use Rattle.run.proofs.Going.{fed-append, printed-append}
 
@@ -47,27 +48,27 @@ module _ (p : Plan) (x : At) (l : List ℕ) (ls : List (List ℕ)) (out : List �
   first = fedPrinted p x l
 
   abbrev rest : List ℕ
-  rest = fedPrinted p (fed p x l) (joined ls)
+  rest = fedPrinted p (fed p x l) (inOne ls)
 
   abbrev Behind : Taken
   Behind = linesTaken p (fed p x l) ls (outAfter out fill first) (fill + length first)
 
-  both : fedPrinted p x (l ++ joined ls) ≡ first ++ rest
-  both = printed-append p x l (joined ls)
+  both : fedPrinted p x (l ++ inOne ls) ≡ first ++ rest
+  both = printed-append p x l (inOne ls)
 
-  both-long : length (fedPrinted p x (l ++ joined ls)) ≡ length first + length rest
+  both-long : length (fedPrinted p x (l ++ inOne ls)) ≡ length first + length rest
   both-long = ap length both ∙ length-append first rest
 
   next : hasRoom out fill first ≡ true → linesTaken p x (l ∷ ls) out fill ≡ behind (length l) Behind
   unfolding linesTaken
   next e = rw (linesTaken, e)
 
-  line-wrote : fill + length first ≤ length out → Wrote p (fed p x l) (joined ls) (outAfter out fill first) (fill + length first) Behind
-      → Wrote p x (l ++ joined ls) out fill (linesTaken p x (l ∷ ls) out fill)
+  line-wrote : fill + length first ≤ length out → Wrote p (fed p x l) (inOne ls) (outAfter out fill first) (fill + length first) Behind
+      → Wrote p x (l ++ inOne ls) out fill (linesTaken p x (l ∷ ls) out fill)
   unfolding behind
   line-wrote h w =
-      subst (Wrote p x (l ++ joined ls) out fill) (sym (next (has-room out fill first h))) (record {
-        stands = w .stands ∙ sym (fed-append p x l (joined ls));
+      subst (Wrote p x (l ++ inOne ls) out fill) (sym (next (has-room out fill first h))) (record {
+        stands = w .stands ∙ sym (fed-append p x l (inOne ls));
         filled = omega (arith, w .filled, both-long);
         long = w .long ∙ after-length out fill first h;
         front =
@@ -78,30 +79,30 @@ module _ (p : Plan) (x : At) (l : List ℕ) (ls : List (List ℕ)) (out : List �
       })
 
   -- the first has room where all have
-  first-fits : fill + length (fedPrinted p x (l ++ joined ls)) ≤ length out → fill + length first ≤ length out
+  first-fits : fill + length (fedPrinted p x (l ++ inOne ls)) ≤ length out → fill + length first ≤ length out
   first-fits h = omega (arith, both-long)
 
-  rest-fits : fill + length (fedPrinted p x (l ++ joined ls)) ≤ length out → fill + length first + length rest ≤ length (outAfter out fill first)
+  rest-fits : fill + length (fedPrinted p x (l ++ inOne ls)) ≤ length out → fill + length first + length rest ≤ length (outAfter out fill first)
   rest-fits h = omega (arith, both-long, after-length out fill first (first-fits h))
 
-lines-wrote : (p : Plan) (ls : List (List ℕ)) (x : At) (out : List ℕ) (fill : ℕ) → fill + length (fedPrinted p x (joined ls)) ≤ length out
-    → Wrote p x (joined ls) out fill (linesTaken p x ls out fill)
-unfolding joined linesTaken nothing fed fedPrinted
+lines-wrote : (p : Plan) (ls : List (List ℕ)) (x : At) (out : List ℕ) (fill : ℕ) → fill + length (fedPrinted p x (inOne ls)) ≤ length out
+    → Wrote p x (inOne ls) out fill (linesTaken p x ls out fill)
+unfolding inOne linesTaken nothing fed fedPrinted
 lines-wrote p [] x out fill h = record { stands = refl; filled = omega arith; long = refl; front = sym (append-nil _) }
 lines-wrote p (l ∷ ls) x out fill h = line-wrote p x l ls out fill (first-fits p x l ls out fill h) (lines-wrote p ls (fed p x l) _ _ (rest-fits p x l ls out fill h))
 
 -- the lines of a text are the text
-onto-joined : (b : ℕ) (ls : List (List ℕ)) → joined (onto b ls) ≡ b ∷ joined ls
-unfolding onto joined
+onto-joined : (b : ℕ) (ls : List (List ℕ)) → inOne (onto b ls) ≡ b ∷ inOne ls
+unfolding onto inOne
 onto-joined b [] = refl
 onto-joined b (l ∷ ls) = refl
 
-joined-lines : (t : List ℕ) → joined (lines t) ≡ t
-unfolding lines joined
+joined-lines : (t : List ℕ) → inOne (lines t) ≡ t
+unfolding lines inOne
 joined-lines [] = refl
 joined-lines (b ∷ bs) = go (eqb b lineFeed) (lines bs) (joined-lines bs)
   where
-    go : (c : Bool) (ls : List (List ℕ)) → joined ls ≡ bs → joined (elim c [ true ↦ (b ∷ []) ∷ ls | false ↦ onto b ls ]) ≡ b ∷ bs
+    go : (c : Bool) (ls : List (List ℕ)) → inOne ls ≡ bs → inOne (elim c [ true ↦ (b ∷ []) ∷ ls | false ↦ onto b ls ]) ≡ b ∷ bs
     go true ls e = ap (λ (u : List ℕ). b ∷ u) e
     go false ls e = onto-joined b ls ∙ ap (λ (u : List ℕ). b ∷ u) e
 
