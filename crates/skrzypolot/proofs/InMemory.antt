@@ -1,10 +1,10 @@
 -- A run in memory: what stands in a buffer that has room for it is what the definition prints.
 use mathlib.Core.Path.{_≡_, refl, sym, ap, subst, _∙_}
-use mathlib.Core.Bool.{Bool, true, false}
+use mathlib.Core.Bool.{true, false}
 use mathlib.Core.List.{List, [], _∷_, _++_, append-nil}
 use Prim.Native.Nat.{ℕ, _+_, _≤_}
 use native.Mathlib.Omega.{arith}
-use lib.ListN.{length, take, drop, length-append, length-drop}
+use lib.ListN.{length, take, length-append, length-drop}
 use Rattle.io.specs.Counts.{Counts}
 use Rattle.files.proofs.Counting.{counts}
 use Rattle.plan.specs.declared.Plan.{Plan}
@@ -28,7 +28,7 @@ use Rattle.run.specs.declared.stream.Stream.{Stream}
 use Rattle.run.specs.declared.stream.Fed.{Fed}
 use Rattle.run.specs.Stream.{At, start, fed, fedPrinted, endPrinted, piecesPrinted}
 use Rattle.run.specs.AsFar.{inOne}
-use Rattle.run.specs.Fed.{Taken, Within, atOf, takenOf, pieceTaken}
+use Rattle.run.specs.Fed.{Within, atOf, takenOf, pieceTaken}
 use Rattle.run.proofs.FirstLines.{fed-lent}
 use Rattle.run.proofs.Pieces.{pieces-run}
 use Rattle.skrzypolot.proofs.Wrote.{Wrote, after-take, piece-wrote}

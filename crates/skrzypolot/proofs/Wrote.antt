@@ -2,12 +2,12 @@
 use mathlib.Core.Path.{_≡_, refl, sym, ap, subst, _∙_}
 use mathlib.Core.Bool.{Bool, true, false}
 use mathlib.Core.List.{List, [], _∷_, _++_, append-assoc, append-nil}
-use Prim.Native.Nat.{ℕ, _+_, _≤_}
+use Prim.Native.Nat.{ℕ, _+_, _-_, _≤_}
 use native.Mathlib.Omega.{arith}
 use lib.Dec.{eqb}
 use lib.ListN.{length, take, drop, length-append, length-take, length-drop}
 use lib.Seq.{take-at}
-use borrow.Author.Tests.{le-leb}
+use borrow.Author.Tests.{le-leb, leb-true}
 use Rattle.text.specs.Lines.{lineFeed, onto, lines}
 use Rattle.plan.specs.declared.Plan.{Plan}
 use Rattle.line.specs.Filled.{hasRoom, outAfter}
@@ -42,33 +42,33 @@ pub record Wrote (p : Plan) (x : At) (t out : List ℕ) (fill : ℕ) (w : Taken)
   pub long : length (w .out) ≡ length out
   pub front : take (w .fill) (w .out) ≡ take fill out ++ fedPrinted p x t
 
--- one line and those behind it
-module _ (p : Plan) (x : At) (l : List ℕ) (ls : List (List ℕ)) (out : List ℕ) (fill : ℕ) where
+-- one line, and a text that was taken behind it
+module _ (p : Plan) (x : At) (l : List ℕ) (ls : List (List ℕ)) (t out : List ℕ) (fill : ℕ) where
   abbrev first : List ℕ
   first = fedPrinted p x l
 
   abbrev rest : List ℕ
-  rest = fedPrinted p (fed p x l) (inOne ls)
+  rest = fedPrinted p (fed p x l) t
 
   abbrev Behind : Taken
   Behind = linesTaken p (fed p x l) ls (outAfter out fill first) (fill + length first)
 
-  both : fedPrinted p x (l ++ inOne ls) ≡ first ++ rest
-  both = printed-append p x l (inOne ls)
+  both : fedPrinted p x (l ++ t) ≡ first ++ rest
+  both = printed-append p x l t
 
-  both-long : length (fedPrinted p x (l ++ inOne ls)) ≡ length first + length rest
+  both-long : length (fedPrinted p x (l ++ t)) ≡ length first + length rest
   both-long = ap length both ∙ length-append first rest
 
   next : hasRoom out fill first ≡ true → linesTaken p x (l ∷ ls) out fill ≡ behind (length l) Behind
   unfolding linesTaken
   next e = rw (linesTaken, e)
 
-  line-wrote : fill + length first ≤ length out → Wrote p (fed p x l) (inOne ls) (outAfter out fill first) (fill + length first) Behind
-      → Wrote p x (l ++ inOne ls) out fill (linesTaken p x (l ∷ ls) out fill)
+  line-wrote : fill + length first ≤ length out → Wrote p (fed p x l) t (outAfter out fill first) (fill + length first) Behind
+      → Wrote p x (l ++ t) out fill (linesTaken p x (l ∷ ls) out fill)
   unfolding behind
   line-wrote h w =
-      subst (Wrote p x (l ++ inOne ls) out fill) (sym (next (has-room out fill first h))) (record {
-        stands = w .stands ∙ sym (fed-append p x l (inOne ls));
+      subst (Wrote p x (l ++ t) out fill) (sym (next (has-room out fill first h))) (record {
+        stands = w .stands ∙ sym (fed-append p x l t);
         filled = omega (arith, w .filled, both-long);
         long = w .long ∙ after-length out fill first h;
         front =
@@ -78,18 +78,75 @@ module _ (p : Plan) (x : At) (l : List ℕ) (ls : List (List ℕ)) (out : List �
             ∙ ap (λ (u : List ℕ). take fill out ++ u) (sym both);
       })
 
-  -- the first has room where all have
-  first-fits : fill + length (fedPrinted p x (l ++ inOne ls)) ≤ length out → fill + length first ≤ length out
+  -- the first has room where both have
+  first-fits : fill + length (fedPrinted p x (l ++ t)) ≤ length out → fill + length first ≤ length out
   first-fits h = omega (arith, both-long)
 
-  rest-fits : fill + length (fedPrinted p x (l ++ inOne ls)) ≤ length out → fill + length first + length rest ≤ length (outAfter out fill first)
+  rest-fits : fill + length (fedPrinted p x (l ++ t)) ≤ length out → fill + length first + length rest ≤ length (outAfter out fill first)
   rest-fits h = omega (arith, both-long, after-length out fill first (first-fits h))
+
+nothing-wrote : (p : Plan) (x : At) (out : List ℕ) (fill : ℕ) → Wrote p x [] out fill (nothing x out fill)
+unfolding nothing fed fedPrinted
+nothing-wrote p x out fill = record { stands = refl; filled = omega arith; long = refl; front = sym (append-nil _) }
 
 lines-wrote : (p : Plan) (ls : List (List ℕ)) (x : At) (out : List ℕ) (fill : ℕ) → fill + length (fedPrinted p x (inOne ls)) ≤ length out
     → Wrote p x (inOne ls) out fill (linesTaken p x ls out fill)
-unfolding inOne linesTaken nothing fed fedPrinted
-lines-wrote p [] x out fill h = record { stands = refl; filled = omega arith; long = refl; front = sym (append-nil _) }
-lines-wrote p (l ∷ ls) x out fill h = line-wrote p x l ls out fill (first-fits p x l ls out fill h) (lines-wrote p ls (fed p x l) _ _ (rest-fits p x l ls out fill h))
+unfolding inOne linesTaken
+lines-wrote p [] x out fill h = nothing-wrote p x out fill
+lines-wrote p (l ∷ ls) x out fill h =
+    line-wrote p x l ls (inOne ls) out fill (first-fits p x l ls (inOne ls) out fill h)
+    (lines-wrote p ls (fed p x l) _ _ (rest-fits p x l ls (inOne ls) out fill h))
+
+-- as far as there was room: a front of the text was taken
+pub record Part (p : Plan) (x : At) (t out : List ℕ) (fill : ℕ) (w : Taken) : Type 0 where
+  pub part : List ℕ
+  pub left : List ℕ
+  pub parts : t ≡ part ++ left
+  pub many : w .bytes ≡ length part
+  pub wrote : Wrote p x part out fill w
+
+module _ (p : Plan) (x : At) (l : List ℕ) (ls : List (List ℕ)) (out : List ℕ) (fill : ℕ) where
+  abbrev printed : List ℕ
+  printed = fedPrinted p x l
+
+  line-fits : fill ≤ length out → hasRoom out fill printed ≡ true → fill + length printed ≤ length out
+  line-fits h e = let k : length printed ≤ length out - fill = rw length-drop at (leb-true (length printed) (length (drop fill out)) (unfold hasRoom in e)) in omega arith
+
+  line-part : fill + length printed ≤ length out → Part p (fed p x l) (inOne ls) (outAfter out fill printed) (fill + length printed) (linesTaken p (fed p x l) ls (outAfter out fill printed) (fill + length printed))
+      → Part p x (l ++ inOne ls) out fill (linesTaken p x (l ∷ ls) out fill)
+  unfolding behind
+  line-part h w = record {
+    part = l ++ w .part;
+    left = w .left;
+    parts = ap (λ (u : List ℕ). l ++ u) (w .parts) ∙ sym (append-assoc l (w .part) (w .left));
+    many =
+        ap (λ (y : Taken). y .bytes) (next p x l ls (w .part) out fill (has-room out fill printed h))
+        ∙ ap (λ (k : ℕ). length l + k) (w .many)
+        ∙ sym (length-append l (w .part));
+    wrote = line-wrote p x l ls (w .part) out fill h (w .wrote);
+  }
+
+  stop : hasRoom out fill printed ≡ false → linesTaken p x (l ∷ ls) out fill ≡ nothing x out fill
+  unfolding linesTaken
+  stop e = rw (linesTaken, e)
+
+nothing-part : (p : Plan) (x : At) (t out : List ℕ) (fill : ℕ) → Part p x t out fill (nothing x out fill)
+unfolding nothing
+nothing-part p x t out fill = record { part = []; left = t; parts = refl; many = refl; wrote = nothing-wrote p x out fill }
+
+lines-part : (p : Plan) (ls : List (List ℕ)) (x : At) (out : List ℕ) (fill : ℕ) → fill ≤ length out → Part p x (inOne ls) out fill (linesTaken p x ls out fill)
+unfolding inOne linesTaken
+lines-part p [] x out fill h = nothing-part p x [] out fill
+lines-part p (l ∷ ls) x out fill h = go (hasRoom out fill (fedPrinted p x l)) refl (lines-part p ls (fed p x l) (outAfter out fill (fedPrinted p x l)) (fill + length (fedPrinted p x l)))
+  where
+    go : (b : Bool) → hasRoom out fill (fedPrinted p x l) ≡ b
+        → (fill + length (fedPrinted p x l) ≤ length (outAfter out fill (fedPrinted p x l))
+        → Part p (fed p x l) (inOne ls) (outAfter out fill (fedPrinted p x l)) (fill + length (fedPrinted p x l)) (linesTaken p (fed p x l) ls (outAfter out fill (fedPrinted p x l)) (fill + length (fedPrinted p x l))))
+        → Part p x (l ++ inOne ls) out fill (linesTaken p x (l ∷ ls) out fill)
+    go true e ih =
+        let k = line-fits p x l ls out fill h e in
+        line-part p x l ls out fill k (ih (omega (arith, after-length out fill (fedPrinted p x l) k)))
+    go false e ih = subst (Part p x (l ++ inOne ls) out fill) (sym (stop p x l ls out fill e)) (nothing-part p x (l ++ inOne ls) out fill)
 
 -- the lines of a text are the text
 onto-joined : (b : ℕ) (ls : List (List ℕ)) → inOne (onto b ls) ≡ b ∷ inOne ls
@@ -110,3 +167,7 @@ pub piece-wrote : (p : Plan) (x : At) (t out : List ℕ) (fill : ℕ) → fill +
 unfolding pieceTaken
 piece-wrote p x t out fill h =
     subst (λ (u : List ℕ). Wrote p x u out fill (linesTaken p x (lines t) out fill)) (joined-lines t) (lines-wrote p (lines t) x out fill (rw (joined-lines t) h))
+
+pub piece-part : (p : Plan) (x : At) (t out : List ℕ) (fill : ℕ) → fill ≤ length out → Part p x t out fill (pieceTaken p x t out fill)
+unfolding pieceTaken
+piece-part p x t out fill h = subst (λ (u : List ℕ). Part p x u out fill (linesTaken p x (lines t) out fill)) (joined-lines t) (lines-part p (lines t) x out fill h)

@@ -1,6 +1,12 @@
 // The output of a run goes through one buffer, by the writer's own answer that a line has no room: then the buffer is written out, and the run goes on.
+ghost use mathlib.Core.Path.{_≡_};
+ghost use mathlib.Core.Bool.{false};
 ghost use Prim.Native.Nat.{_≤_};
-ghost use lib.ListN.{length};
+ghost use lib.ListN.{length, take};
+ghost use Rattle.plan.specs.declared.Plan.{Plan};
+ghost use Rattle.step.specs.Lent.{Lent};
+ghost use Rattle.run.specs.Fed.{atOf};
+ghost use Rattle.skrzypolot.specs.Went.{Went};
 use files::write_out;
 use line::Filled;
 use run::stream::Stream;
@@ -15,7 +21,8 @@ pub struct Answered {
     pub is_failed: bool,
 }
 
-// One piece of the event file. An empty buffer has room for any line, so that it is never met that nothing is taken with an empty buffer.
+// One piece of the event file. Where a line has no room, the buffer is written out. Any line has room in an empty buffer, so that such a line is then
+// taken; the test for an empty buffer is there for the proof that the loop ends.
 pub fn answer_piece(
     rows: Rows,
     lengths: &[u16],
@@ -26,6 +33,8 @@ pub fn answer_piece(
 ) -> Answered
     requires { ⌜ fill ≤ length (now out) ⌝ }
     ensures { λ r. ⌜ r .fill ≤ length (now (out .exit)) ⌝ }
+    ensures { λ r. ⌜ ((p : Plan) → Lent p (s .state) rows (now (lengths .entry)) → r .«is_failed» ≡ false
+        → Went p (atOf s) (take fill (now (out .entry))) (now (piece .entry)) (atOf (r .stream)) (take (r .fill) (now (out .exit)))) ⌝ }
 {
     let mut stream = s;
     let mut filled = fill;

@@ -1,4 +1,5 @@
-use mathlib.Core.Path.{_≡_, refl, sym, _∙_}
+-- `skrzypolot::events::run_pieces` is safe and ends. The loop's invariant: count and fill lie within their buffers. The measure is the number of turns left.
+use mathlib.Core.Path.{_≡_, sym}
 use Prim.Native.Nat.{_≤_}
 use native.Mathlib.Omega.{arith}
 use lib.ListN.{length}
@@ -7,11 +8,6 @@ use borrow.Author.Needs.{needs}
 use Rattle.io.specs.Counts.{Counts}
 use Rattle.skrzypolot.proofs.events.run_pieces.Statement.{statement}
 use Rattle.skrzypolot.proofs.events.run_pieces.Tie as tie
-use Rattle.skrzypolot.proofs.events.run_pieces.Reads as reads
-use Rattle.skrzypolot.proofs.events.run_pieces.Lts as lts
-use Rattle.files.proofs.write_out.Reads as write-out-reads
-use Rattle.skrzypolot.proofs.events.next_piece.Reads as next-piece-reads
-use Rattle.skrzypolot.proofs.pieces.answer_end.Reads as answer-end-reads
 
 abbrev Inv-loop : tie.InvT-loop
 Inv-loop rows lengths fd path piece₀ out₀ g₀ turns₀ piece out g turns =
@@ -20,63 +16,48 @@ Inv-loop rows lengths fd path piece₀ out₀ g₀ turns₀ piece out g turns =
 abbrev μ-loop : tie.MeasureT-loop
 μ-loop rows lengths fd path piece₀ out₀ g₀ turns₀ piece out g turns = turns
 
--- src/events.rt:74:5
 loop-holds : tie.Need-loop-holds Inv-loop μ-loop
 loop-holds c = search needs
 
--- src/events.rt:75:9
 next-piece-requires : tie.Need-next-piece-requires Inv-loop μ-loop
 next-piece-requires c κs = search needs
 
--- src/events.rt:76:9
 sub-turns : tie.Need-sub-turns Inv-loop μ-loop
 sub-turns c = omega arith
 
--- src/events.rt:74:5
 loop-less : tie.Need-loop-less Inv-loop μ-loop
 loop-less c = omega arith
 
--- src/events.rt:74:5
 loop-again : tie.Need-loop-again Inv-loop μ-loop
 loop-again c = search needs
 
--- src/events.rt:80:19
 slice-reshare-prefix-write-out : tie.Need-slice-reshare-prefix-write-out Inv-loop μ-loop
 slice-reshare-prefix-write-out c = search needs
 
--- src/events.rt:80:19
 slice-aggregate-write-out : tie.Need-slice-aggregate-write-out Inv-loop μ-loop
 slice-aggregate-write-out c = sym (length-take-le _ _ (search needs))
 
--- src/events.rt:80:9
 write-out-requires : tie.Need-write-out-requires Inv-loop μ-loop
 write-out-requires c κs = search needs
 
--- src/events.rt:81:9
 same-length : tie.Need-same-length Inv-loop μ-loop
 same-length c = search needs
 
--- src/events.rt:81:9
 same-length-2 : tie.Need-same-length-2 Inv-loop μ-loop
 same-length-2 c = search needs
 
--- src/events.rt:81:9
 returns : tie.Need-returns Inv-loop μ-loop
 returns c = search needs
 
--- src/events.rt:84:5
 answer-end-requires : tie.Need-answer-end-requires Inv-loop μ-loop
 answer-end-requires c κs = search needs
 
--- src/events.rt:61:1
 same-length-3 : tie.Need-same-length-3 Inv-loop μ-loop
 same-length-3 c = search needs
 
--- src/events.rt:61:1
 same-length-4 : tie.Need-same-length-4 Inv-loop μ-loop
 same-length-4 c = search needs
 
--- src/events.rt:61:1
 returns-2 : tie.Need-returns-2 Inv-loop μ-loop
 returns-2 c = search needs
 

@@ -1,38 +1,29 @@
-use Rattle.skrzypolot.proofs.InMemory.{text-room, text-none}
+-- `skrzypolot::memory::refusal_of` meets its contract: the line stands at the start of the buffer, where it has room.
 use borrow.Author.Needs.{needs}
+use Rattle.skrzypolot.proofs.InMemory.{text-room, text-none}
 use Rattle.skrzypolot.proofs.memory.refusal_of.Statement.{statement}
 use Rattle.skrzypolot.proofs.memory.refusal_of.Tie as tie
-use Rattle.skrzypolot.proofs.memory.refusal_of.Reads as reads
-use Rattle.skrzypolot.proofs.memory.refusal_of.Lts as lts
-use Rattle.line.proofs.print_refusal.Reads as print-refusal-reads
 
--- src/memory.rt:37:9
 print-refusal-requires : tie.Need-print-refusal-requires
 print-refusal-requires c κs = search needs
 
--- src/memory.rt:39:22
 enum-known-filled : tie.Need-enum-known-filled
 enum-known-filled c = search needs
 
--- src/memory.rt:40:27
 enum-told : tie.Need-enum-told
 enum-told c = search needs
 
--- src/memory.rt:33:1
 same-length : tie.Need-same-length
 same-length c = search needs
 
--- src/memory.rt:33:1
 returns : tie.Need-returns
 returns c =
     let q = c .before .before .before .before .before .print-refusal .ensures in
     text-room _ _ _ _ (q .0) (q .1) (search needs) (c .before .filled .given .1)
 
--- src/memory.rt:33:1
 same-length-2 : tie.Need-same-length-2
 same-length-2 c = search needs
 
--- src/memory.rt:33:1
 returns-2 : tie.Need-returns-2
 returns-2 c =
     let q = c .before .before .before .before .print-refusal .ensures in

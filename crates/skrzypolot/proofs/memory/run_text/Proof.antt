@@ -1,43 +1,29 @@
+-- `skrzypolot::memory::run_text` meets its contract: the plan is refused, or it is accepted and its run stands there.
 use mathlib.Core.Path.{sym, _∙_}
+use borrow.Author.Needs.{needs}
 use borrow.Author.Tests.{not-true, not-false}
 use Rattle.skrzypolot.proofs.InMemory.{refused-run, accepted-run, plan-accepted}
-use borrow.Author.Needs.{needs}
 use Rattle.skrzypolot.proofs.memory.run_text.Statement.{statement}
 use Rattle.skrzypolot.proofs.memory.run_text.Tie as tie
-use Rattle.skrzypolot.proofs.memory.run_text.Reads as reads
-use Rattle.skrzypolot.proofs.memory.run_text.Lts as lts
-use Rattle.reader.proofs.numbers.beside.Reads as beside-reads
-use Rattle.reader.proofs.numbers.is_accepted.Reads as is-accepted-reads
-use Rattle.reader.proofs.numbers.number.Reads as number-reads
-use Rattle.reader.proofs.read.Reads as read-reads
-use Rattle.skrzypolot.proofs.memory.refusal_of.Reads as refusal-of-reads
-use Rattle.skrzypolot.proofs.memory.run_plan.Reads as run-plan-reads
 
--- src/memory.rt:49:9
 read-requires : tie.Need-read-requires
 read-requires c κs = search needs
 
--- src/memory.rt:51:9
 is-accepted-requires : tie.Need-is-accepted-requires
 is-accepted-requires c κs = search needs
 
--- src/memory.rt:52:27
 number-requires : tie.Need-number-requires
 number-requires c κs = search needs
 
--- src/memory.rt:52:55
 beside-requires : tie.Need-beside-requires
 beside-requires c κs = search needs
 
--- src/memory.rt:52:9
 refusal-of-requires : tie.Need-refusal-of-requires
 refusal-of-requires c κs = search needs
 
--- src/memory.rt:52:9
 same-length : tie.Need-same-length
 same-length c = search needs
 
--- src/memory.rt:52:9
 returns : tie.Need-returns
 returns c =
     let q = c .before .before in
@@ -47,15 +33,12 @@ returns c =
     let e = refused-run (a .plan .now) (a .events .now) _ (i .before .read .ensures) (sym (i .is-accepted .ensures) ∙ not-true _ (b .before .before .if1 .taken)) in
     (q .refusal-of .ensures .0, rw (e, ← b .before .number .ensures, ← b .beside .ensures) (q .refusal-of .ensures .1))
 
--- src/memory.rt:55:5
 run-plan-requires : tie.Need-run-plan-requires
 run-plan-requires c κs = search needs
 
--- src/memory.rt:45:1
 same-length-2 : tie.Need-same-length-2
 same-length-2 c = search needs
 
--- src/memory.rt:45:1
 returns-2 : tie.Need-returns-2
 returns-2 c =
     let q = c .before .before in

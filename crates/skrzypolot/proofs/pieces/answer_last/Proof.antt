@@ -1,56 +1,43 @@
+-- `skrzypolot::pieces::answer_last` is safe: the fill behind the last line lies within the buffer.
 use mathlib.Core.Path.{sym}
 use native.Mathlib.Omega.{arith}
 use lib.Seq.{length-take-le}
-use Rattle.skrzypolot.proofs.InMemory.{within}
 use borrow.Author.Needs.{needs}
+use Rattle.skrzypolot.proofs.InMemory.{within}
 use Rattle.skrzypolot.proofs.pieces.answer_last.Statement.{statement}
 use Rattle.skrzypolot.proofs.pieces.answer_last.Tie as tie
-use Rattle.skrzypolot.proofs.pieces.answer_last.Reads as reads
-use Rattle.skrzypolot.proofs.pieces.answer_last.Lts as lts
-use Rattle.files.proofs.write_out.Reads as write-out-reads
-use Rattle.run.proofs.stream.finish.Reads as finish-reads
 
--- src/pieces.rt:60:9
 finish-requires : tie.Need-finish-requires
 finish-requires c κs = search needs
 
--- src/pieces.rt:61:22
 enum-known-filled : tie.Need-enum-known-filled
 enum-known-filled c = search needs
 
--- src/pieces.rt:62:9
 enum-told : tie.Need-enum-told
 enum-told c = search needs
 
--- src/pieces.rt:62:9
 same-length : tie.Need-same-length
 same-length c = search needs
 
--- src/pieces.rt:62:9
 returns : tie.Need-returns
 returns c = search needs
 
--- src/pieces.rt:64:15
 slice-reshare-prefix-write-out : tie.Need-slice-reshare-prefix-write-out
 slice-reshare-prefix-write-out c =
     let f = c .before .before .before .before .before .finish in
     within _ _ _ (f .ensures .0 _ (c .before .filled .given .1) (omega arith)) (f .kept .1 .1 .1 .0)
 
--- src/pieces.rt:64:15
 slice-aggregate-write-out : tie.Need-slice-aggregate-write-out
 slice-aggregate-write-out c =
     let f = c .before .before .before .before .before .before .finish in
     sym (length-take-le _ _ (within _ _ _ (f .ensures .0 _ (c .before .before .filled .given .1) (omega arith)) (f .kept .1 .1 .1 .0)))
 
--- src/pieces.rt:64:5
 write-out-requires : tie.Need-write-out-requires
 write-out-requires c κs = search needs
 
--- src/pieces.rt:59:1
 same-length-2 : tie.Need-same-length-2
 same-length-2 c = search needs
 
--- src/pieces.rt:59:1
 returns-2 : tie.Need-returns-2
 returns-2 c = search needs
 

@@ -1,40 +1,43 @@
-use mathlib.Core.Path.{_≡_, refl, sym}
+-- `skrzypolot::pieces::answer_piece` meets its contract. The loop's invariant: the run stands where the definition says, and what was written out and
+-- what the buffer holds are what it prints of the bytes taken so far. Each turn takes some bytes, or empties a buffer that was not empty.
+use mathlib.Core.Bool.{true≢false}
+use mathlib.Core.Path.{_≡_, refl, sym, _∙_}
 use Prim.Native.Nat.{ℕ, _+_, _*_, _-_, _≤_, _<_}
 use native.Mathlib.Omega.{arith}
-use borrow.Author.Needs.{needs}
-use lib.ListN.{length, length-drop}
+use lib.ListN.{length, take, drop, length-drop}
 use lib.Seq.{length-take-le}
+use borrow.Author.Needs.{needs}
 use Rattle.line.proofs.Parts.{to-end}
+use Rattle.plan.specs.declared.Plan.{Plan}
+use Rattle.run.specs.Fed.{atOf, takenOf, pieceTaken}
+use Rattle.step.specs.Lent.{Lent}
+use Rattle.skrzypolot.proofs.Through.{went-start, turn-stays, went-on, went-none, went-all}
 use Rattle.skrzypolot.proofs.pieces.answer_piece.Statement.{statement}
 use Rattle.skrzypolot.proofs.pieces.answer_piece.Tie as tie
-use Rattle.skrzypolot.proofs.pieces.answer_piece.Reads as reads
-use Rattle.skrzypolot.proofs.pieces.answer_piece.Lts as lts
-use Rattle.files.proofs.write_out.Reads as write-out-reads
-use Rattle.run.proofs.stream.feed.Reads as feed-reads
+use Rattle.skrzypolot.specs.Went.{Went}
 
 abbrev Inv-loop : tie.InvT-loop
-Inv-loop rows lengths piece out₀ fill stream₀ filled₀ at₀ out stream filled at = (at ≤ length piece) × (length out ≡ length out₀) × (filled ≤ length out₀)
+Inv-loop rows lengths piece out₀ fill stream₀ filled₀ at₀ out stream filled at =
+    (at ≤ length piece)
+    × (length out ≡ length out₀)
+    × (filled ≤ length out₀)
+    × ((p : Plan) → Lent p (stream₀ .state) rows lengths → Lent p (stream .state) rows lengths × Went p (atOf stream₀) (take fill out₀) (take at piece) (atOf stream) (take filled out))
 
 abbrev μ-loop : tie.MeasureT-loop
 μ-loop rows lengths piece out₀ fill stream₀ filled₀ at₀ out stream filled at = 2 * (length piece - at) + (1 - (1 - filled))
 
--- src/pieces.rt:33:5
 loop-holds : tie.Need-loop-holds Inv-loop μ-loop
-loop-holds c = (omega arith, refl, omega arith)
+loop-holds c = (omega arith, refl, omega arith, λ p l. (l, went-start p _ _))
 
--- src/pieces.rt:34:45
 sub-feed : tie.Need-sub-feed Inv-loop μ-loop
 sub-feed c = omega arith
 
--- src/pieces.rt:34:45
 part-feed-start : tie.Need-part-feed-start Inv-loop μ-loop
 part-feed-start c = omega arith
 
--- src/pieces.rt:34:45
 part-feed-end : tie.Need-part-feed-end Inv-loop μ-loop
 part-feed-end c = omega arith
 
--- src/pieces.rt:34:13
 feed-requires : tie.Need-feed-requires Inv-loop μ-loop
 feed-requires c κs = search needs
 
@@ -47,35 +50,54 @@ in-piece c =
     let w = rw (to-end (a .piece .now) (l .at)) at (c .feed .ensures .0 .taken) in
     omega (arith, length-drop (l .at) (a .piece .now))
 
--- src/pieces.rt:38:42
+-- what a turn takes of the rest of the piece
+turn : (c : tie.After-feed Inv-loop μ-loop)
+    → let l = c .before .before .before .before .loop in
+    let a = c .before .before .before .before .before .before .before .before .args in
+    (p : Plan) → Lent p (a .s .state) (a .rows) (a .lengths .now)
+    → takenOf (c .feed .result) (c .feed .last .1 .1 .1 .1 .0) ≡ pieceTaken p (atOf (l .stream)) (drop (l .at) (a .piece .now)) (l .out) (l .filled)
+turn c p h =
+    let l = c .before .before .before .before .loop in
+    let a = c .before .before .before .before .before .before .before .before .args in
+    rw (to-end (a .piece .now) (l .at)) at (c .feed .ensures .1 p (l .inv .3 p h .0))
+
 slice-reshare-prefix-write-out : tie.Need-slice-reshare-prefix-write-out Inv-loop μ-loop
 slice-reshare-prefix-write-out c = search needs
 
--- src/pieces.rt:38:42
 slice-aggregate-write-out : tie.Need-slice-aggregate-write-out Inv-loop μ-loop
 slice-aggregate-write-out c = sym (length-take-le _ _ (search needs))
 
--- src/pieces.rt:38:32
 write-out-requires : tie.Need-write-out-requires Inv-loop μ-loop
 write-out-requires c κs = search needs
 
--- src/pieces.rt:39:17
 same-length : tie.Need-same-length Inv-loop μ-loop
 same-length c = search needs
 
--- src/pieces.rt:39:17
 returns : tie.Need-returns Inv-loop μ-loop
-returns c = omega arith
+returns c = (omega arith, λ p l f. absurd (true≢false f))
 
--- src/pieces.rt:33:5
 loop-less : tie.Need-loop-less Inv-loop μ-loop
 loop-less c = omega (arith, c .before .before .before .if2 .left)
 
--- src/pieces.rt:33:5
 loop-again : tie.Need-loop-again Inv-loop μ-loop
-loop-again c = (search needs, search needs, omega arith)
+unfolding atOf
+loop-again c =
+    let t = c .before .before .before .before .before .before .before .before .before in
+    let l = t .before .before .before .before .loop in
+    let a = t .before .before .before .before .before .before .before .before .args in (
+      l .inv .0,
+      t .feed .kept .1 .1 .1 .1 .0 ∙ l .inv .1,
+      omega arith,
+      λ p q.
+          let h = l .inv .3 p q in
+          let e = turn t p q in
+          let k = l .inv .1 in
+          let f : l .filled ≤ length (l .out) = omega (arith, l .inv .2) in (
+            turn-stays p (a .piece .now) (l .at) (atOf (l .stream)) (l .out) (l .filled) _ _ e f (a .rows) (a .lengths .now) (h .0),
+            went-none p (a .piece .now) (l .at) (atOf (l .stream)) (l .out) (l .filled) _ _ e f _ _ (c .before .before .before .before .if1 .taken) (h .1),
+          ),
+    )
 
--- src/pieces.rt:48:13
 add-at : tie.Need-add-at Inv-loop μ-loop
 add-at c =
     let t = c .before .before .before .before .before .before in
@@ -85,25 +107,37 @@ add-at c =
 falls : (u x v y : ℕ) → u + 2 ≤ v → x ≤ 1 → u + x < v + y
 falls u x v y h k = omega arith
 
--- src/pieces.rt:33:5
 loop-less-2 : tie.Need-loop-less-2 Inv-loop μ-loop
 loop-less-2 c = falls _ _ _ _ (omega (arith, c .before .if1 .left, in-piece (c .before .before .before .before .before .before))) (omega arith)
 
--- src/pieces.rt:33:5
 loop-again-2 : tie.Need-loop-again-2 Inv-loop μ-loop
+unfolding atOf
 loop-again-2 c =
     let t = c .before .before .before .before .before .before in
     let l = t .before .before .before .before .loop in
     let k = l .inv .1 in
-    (in-piece t, search needs, omega (arith, t .feed .ensures .0 .filled (omega arith)))
+    let a = t .before .before .before .before .before .before .before .before .args in (
+      in-piece t,
+      t .feed .kept .1 .1 .1 .1 .0 ∙ l .inv .1,
+      omega (arith, t .feed .ensures .0 .filled (omega arith)),
+      λ p q.
+          let h = l .inv .3 p q in
+          let e = turn t p q in
+          let f : l .filled ≤ length (l .out) = omega (arith, l .inv .2) in (
+            turn-stays p (a .piece .now) (l .at) (atOf (l .stream)) (l .out) (l .filled) _ _ e f (a .rows) (a .lengths .now) (h .0),
+            went-on p (a .piece .now) (l .at) (atOf (l .stream)) (l .out) (l .filled) _ _ e f _ _ (h .1),
+          ),
+    )
 
--- src/pieces.rt:19:1
 same-length-2 : tie.Need-same-length-2 Inv-loop μ-loop
 same-length-2 c = c .before .loop .inv .1
 
--- src/pieces.rt:19:1
 returns-2 : tie.Need-returns-2 Inv-loop μ-loop
-returns-2 c = omega arith
+returns-2 c =
+    let l = c .before .loop in (
+      omega arith,
+      λ p q f. went-all p _ _ _ (l .at) _ _ (c .loop-test .left) (l .inv .3 p q .1),
+    )
 
 pub answer-piece-spec : {M : Type 1} → statement M
 answer-piece-spec =
