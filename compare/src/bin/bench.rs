@@ -1,20 +1,29 @@
 //! The proved library beside the second program on the same bytes, in one run: nanoseconds a call and their ratio.
 //!
 //! Each line is the quickest of several rounds, the two taking turns, so that a busy moment of the machine hits both. A ratio below 1 means
-//! that the proved library is quicker.
+//! that the proved code is quicker. It needs the static library, the programs of `rt check` and the second program built for release.
 
 use second::block::to_block;
+use second::event::Event;
 use second::host::{c_fresh, c_line, c_margin, c_read, c_step};
 use second::image::to_image;
 use second::legal::legal;
+use second::plan::Plan;
 use second::read::read;
 use second::sample;
 use second::state::{Job, State};
-use std::fmt::Write;
+use second::step::step;
+use std::fmt::Write as _;
 use std::hint::black_box;
+use std::io::Write as _;
+use std::path::{Path, PathBuf};
+use std::process::{Command, Stdio};
 use std::time::{Duration, Instant};
 
 const ROUNDS: usize = 15;
+
+/// Events of a run that is timed as a whole.
+const EVENTS: u32 = 1_000_000;
 
 /// How long a round should take.
 const ROUND: Duration = Duration::from_millis(40);
@@ -32,6 +41,115 @@ fn main() {
     ] {
         bench_plan(name, text);
     }
+    println!();
+    println!("| program | proved | second | ratio |");
+    println!("|---|---|---|---|");
+    for (name, text) in [
+        ("plan P", &plan_p),
+        ("8 rows, 32 tasks, 16 resources", &plan_of(8, 32, 16)),
+    ] {
+        bench_pace(name, text);
+        bench_run(name, text);
+    }
+}
+
+/// Nanoseconds an event of the step alone, without the tests of plan and state: the program `pace` beside the same events here.
+fn bench_pace(name: &str, text: &str) {
+    let file = temporary("pace.plan", text.as_bytes());
+    let plan = read(text.as_bytes()).expect("a plan to measure is accepted");
+    let (mut proved, mut second) = (f64::MAX, f64::MAX);
+    for _ in 0..ROUNDS {
+        let began = Instant::now();
+        let output = Command::new(program("pace")).arg(&file).output().unwrap();
+        proved = proved.min(began.elapsed().as_secs_f64() * 1e9 / f64::from(EVENTS));
+        let began = Instant::now();
+        let sum = paced(&plan);
+        second = second.min(began.elapsed().as_secs_f64() * 1e9 / f64::from(EVENTS));
+        assert_eq!(output.stdout, format!("{sum}\n").as_bytes());
+    }
+    println!(
+        "| step alone, {name}, ns an event | {proved:.0} | {second:.0} | {:.2} |",
+        proved / second
+    );
+}
+
+/// The events of the program `pace`, and its sum over the answers.
+fn paced(plan: &Plan) -> u64 {
+    const KINDS: [u32; 16] = [4, 4, 4, 4, 4, 4, 4, 0, 0, 0, 1, 1, 1, 2, 2, 3];
+    let (mut state, mut x, mut sum) = (State::fresh(plan), 1_u64, 0_u64);
+    for _ in 0..EVENTS {
+        x = (x * 1_664_525 + 1_013_904_223) % (1 << 32);
+        let kind = KINDS[(x / 65_536 % 16) as usize];
+        let task = (x / 1_048_576 % 32) as u32;
+        let resource = (x / 4_096 % 16) as u32;
+        let outcome = step(plan, &mut state, Event::from_numbers(kind, task, resource));
+        let row = |row: Option<usize>| row.map_or(255, |row| row as u64);
+        sum = (sum * 31
+            + u64::from(outcome.answer.number()) * 65_536
+            + row(outcome.subsystem) * 256
+            + row(outcome.task))
+            % (1 << 32);
+    }
+    sum
+}
+
+/// Events a second of the run program on a long file, output thrown away, beside the second program on the same file.
+fn bench_run(name: &str, text: &str) {
+    let plan = temporary("run.plan", text.as_bytes());
+    let mut events = Vec::new();
+    let mut x = 1_u64;
+    for _ in 0..EVENTS {
+        x = (x * 1_664_525 + 1_013_904_223) % (1 << 32);
+        let (task, resource) = (x / 1_048_576 % 32, x / 4_096 % 16);
+        match x / 65_536 % 16 {
+            0..=6 => writeln!(events, "tick"),
+            7..=9 => writeln!(events, "release\t{task}"),
+            10..=12 => writeln!(events, "lock\t{task}\t{resource}"),
+            13..=14 => writeln!(events, "unlock\t{task}\t{resource}"),
+            _ => writeln!(events, "end\t{task}"),
+        }
+        .unwrap();
+    }
+    let events = temporary("run.events", &events);
+    let time = |command: &mut Command| {
+        let began = Instant::now();
+        let status = command.stdout(Stdio::null()).status().unwrap();
+        assert!(status.success());
+        f64::from(EVENTS) / began.elapsed().as_secs_f64()
+    };
+    let (mut proved, mut other) = (0.0_f64, 0.0_f64);
+    for _ in 0..ROUNDS {
+        proved = proved.max(time(
+            Command::new(program("skrzypolot")).args([&plan, &events]),
+        ));
+        other = other.max(time(
+            Command::new(second_program())
+                .arg("run")
+                .args([&plan, &events]),
+        ));
+    }
+    println!(
+        "| run program, {name}, events a second | {proved:.0} | {other:.0} | {:.2} |",
+        other / proved
+    );
+}
+
+/// A program that `rt check` has written.
+fn program(name: &str) -> PathBuf {
+    Path::new(env!("CARGO_MANIFEST_DIR"))
+        .join("../target/bin")
+        .join(name)
+}
+
+/// The second program, built for release.
+fn second_program() -> PathBuf {
+    Path::new(env!("CARGO_MANIFEST_DIR")).join("../second/target/release/second")
+}
+
+fn temporary(name: &str, bytes: &[u8]) -> PathBuf {
+    let path = std::env::temp_dir().join(format!("skrzypolot-bench-{name}"));
+    std::fs::write(&path, bytes).unwrap();
+    path
 }
 
 /// Every task declares every resource, all of them global.
