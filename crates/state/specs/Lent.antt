@@ -10,6 +10,7 @@ use Rattle.plan.specs.declared.Plan.{Plan}
 use Rattle.plan.specs.Limits.{mostSubsystems, mostTasks, noRow}
 use Rattle.plan.specs.Plan.{owner, isGlobal, declares, level, takenBefore}
 use Rattle.state.specs.declared.BudgetLeft.{BudgetLeft}
+use Rattle.state.specs.declared.Clocks.{Clocks}
 use Rattle.state.specs.declared.Task.{Task}
 use Rattle.state.specs.declared.State.{State}
 use Rattle.state.specs.State.{taskAt, isWaiting, heldAt, lastHeld, inSection}
@@ -18,6 +19,10 @@ use Rattle.state.specs.Legal.{implies, countsLegal, absentSubsystem, wel
 abbrev pub columns : List BudgetLeft → List ℕ → List ℕ → List ℕ → List ℕ → List ℕ → List ℕ → State
 columns left refill used conditions waits counts held =
     record { left = left; refill = refill; used = used; conditions = conditions; waits = waits; counts = counts; held = held }
+
+-- the state with these clocks and these columns of tasks
+abbrev pub stateWith : Clocks → List ℕ → List ℕ → List ℕ → List ℕ → State
+stateWith q conditions waits counts held = columns (q .left) (q .refill) (q .used) conditions waits counts held
 
 -- the counts of a subsystem, present or absent
 unfoldable pub countsFit : Plan → State → ℕ → Bool

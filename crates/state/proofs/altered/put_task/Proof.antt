@@ -4,17 +4,17 @@ use Rattle.state.specs.State.{heldPlace}
 use Rattle.state.specs.Update.{withTask, withHeld}
 use Rattle.state.proofs.CodeStores.{withTask-past}
 use borrow.Author.Needs.{needs}
-use Rattle.state.proofs.altered.with_task.Statement.{statement}
-use Rattle.state.proofs.altered.with_task.Tie as tie
+use Rattle.state.proofs.altered.put_task.Statement.{statement}
+use Rattle.state.proofs.altered.put_task.Tie as tie
 
-element-write-next : tie.Need-element-write-next
-element-write-next c = search needs
+element-write-conditions : tie.Need-element-write-conditions
+element-write-conditions c = search needs
 
-element-write-next-2 : tie.Need-element-write-next-2
-element-write-next-2 c = search needs
+element-write-waits : tie.Need-element-write-waits
+element-write-waits c = search needs
 
-element-write-next-3 : tie.Need-element-write-next-3
-element-write-next-3 c = search needs
+element-write-counts : tie.Need-element-write-counts
+element-write-counts c = search needs
 
 held-place-requires : tie.Need-held-place-requires
 held-place-requires c κs = search needs
@@ -22,9 +22,9 @@ held-place-requires c κs = search needs
 held-at-requires : tie.Need-held-at-requires
 held-at-requires c κs = search needs
 
-element-write-next-4 : tie.Need-element-write-next-4
+element-write-held : tie.Need-element-write-held
 unfolding heldPlace
-element-write-next-4 c = omega arith
+element-write-held c = omega arith
 
 held-place-requires-2 : tie.Need-held-place-requires-2
 held-place-requires-2 c κs = search needs
@@ -32,9 +32,9 @@ held-place-requires-2 c κs = search needs
 held-at-requires-2 : tie.Need-held-at-requires-2
 held-at-requires-2 c κs = search needs
 
-element-write-next-5 : tie.Need-element-write-next-5
+element-write-held-2 : tie.Need-element-write-held-2
 unfolding heldPlace
-element-write-next-5 c = omega arith
+element-write-held-2 c = omega arith
 
 held-place-requires-3 : tie.Need-held-place-requires-3
 held-place-requires-3 c κs = search needs
@@ -42,9 +42,9 @@ held-place-requires-3 c κs = search needs
 held-at-requires-3 : tie.Need-held-at-requires-3
 held-at-requires-3 c κs = search needs
 
-element-write-next-6 : tie.Need-element-write-next-6
+element-write-held-3 : tie.Need-element-write-held-3
 unfolding heldPlace
-element-write-next-6 c = omega arith
+element-write-held-3 c = omega arith
 
 held-place-requires-4 : tie.Need-held-place-requires-4
 held-place-requires-4 c κs = search needs
@@ -52,35 +52,35 @@ held-place-requires-4 c κs = search needs
 held-at-requires-4 : tie.Need-held-at-requires-4
 held-at-requires-4 c κs = search needs
 
-element-write-next-7 : tie.Need-element-write-next-7
+element-write-held-4 : tie.Need-element-write-held-4
 unfolding heldPlace
-element-write-next-7 c = omega arith
+element-write-held-4 c = omega arith
 
 returns : tie.Need-returns
 unfolding withTask withHeld
-returns c = cc
+returns c = λ q Z. cc
 
 returns-2 : tie.Need-returns-2
-returns-2 c = withTask-past _ _ _ (search needs) (search needs) (search needs) (search needs) (c .if1 .left)
+returns-2 c = λ q Z. withTask-past _ _ _ (Z .conditions) (Z .waits) (Z .counts) (Z .held) (c .if1 .left)
 
-pub with-task-spec : {M : Type 1} → statement M
-with-task-spec =
+pub put-task-spec : {M : Type 1} → statement M
+put-task-spec =
     tie.close
     (tie.spec
-    element-write-next
-    element-write-next-2
-    element-write-next-3
+    element-write-conditions
+    element-write-waits
+    element-write-counts
     held-place-requires
     held-at-requires
-    element-write-next-4
+    element-write-held
     held-place-requires-2
     held-at-requires-2
-    element-write-next-5
+    element-write-held-2
     held-place-requires-3
     held-at-requires-3
-    element-write-next-6
+    element-write-held-3
     held-place-requires-4
     held-at-requires-4
-    element-write-next-7
+    element-write-held-4
     returns
     returns-2)
