@@ -20,9 +20,9 @@ use Rattle.state.specs.Update.{withTask, withUsed, started}
 use Rattle.state.specs.Sized.{Sized}
 use Rattle.state.proofs.Update.{held-sized, taskAt-withTask, taskAt-withTask-other, usedOf-withTask, sized-withTask, taskAt-withUsed, usedOf-withUsed, usedOf-withUsed-other}
 use Rattle.state.proofs.TaskUpdate.{started-section, started-last, started-sized, taking-sized}
-use Rattle.state.proofs.Tasks.{section-engaged}
-use Rattle.state.proofs.Parts.{legal-tasks}
-use Rattle.state.proofs.Changed.{OthersOutside, engaged-others}
+use Rattle.legal.proofs.Tasks.{section-engaged}
+use Rattle.legal.proofs.Parts.{legal-tasks}
+use Rattle.legal.proofs.Changed.{OthersOutside, engaged-others}
 use Rattle.choice.specs.Choice.{chosen, taken, runs, chosenTask}
 use Rattle.choice.proofs.Taken.{Takes, taken-cases}
 use Rattle.choice.proofs.Running.{runs-going}

@@ -16,7 +16,7 @@ use Rattle.state.specs.declared.Task.{Task}
 use Rattle.state.specs.declared.State.{State}
 use Rattle.state.specs.State.{taskAt, inSection, sectionLeft}
 use Rattle.state.specs.Sized.{Sized}
-use Rattle.state.specs.Facts.{Legal}
+use Rattle.legal.specs.Facts.{Legal}
 use Rattle.choice.specs.declared.Choice.{Choice}
 use Rattle.choice.specs.Choice.{chosen, chosenTask, running}
 use Rattle.step.specs.declared.Rows.{Rows}
