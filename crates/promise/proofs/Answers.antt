@@ -17,7 +17,7 @@ use Rattle.state.specs.State.{taskAt}
 use Rattle.state.specs.Update.{withTask, waitingFor}
 use Rattle.choice.specs.Choice.{chosen}
 use Rattle.step.specs.declared.Outcome.{Outcome}
-use Rattle.step.specs.declared.Shut.{Shut}
+use Rattle.step.specs.Tick.{Shut}
 use Rattle.step.specs.Refusals.{release, lock, unlock, end, tick, orderTable, firstRefusal, refuses, refusal}
 use Rattle.step.specs.Events.{answered, released, lengthFitsBudget, withTaken, locked, unlocked, endedTask}
 use Rattle.step.specs.Tick.{shutSpent, tickAnswer, tickIn, tickIdle, tickAfter, ticked}

@@ -1,12 +1,7 @@
-// The state of a run: its types, a fresh one, one with a thing changed, and when one is legal.
-mod alone;
+// The state of a run: its types, a fresh one, one with a thing changed, and what is read of one.
 mod altered;
-mod apart;
 pub mod beginning;
-mod budgets;
 mod columns;
-mod legality;
-mod order;
 mod section;
 
 pub use altered::giving_back;
@@ -19,11 +14,12 @@ pub use altered::waiting_for;
 pub use altered::with_left;
 pub use altered::with_used;
 pub use columns::held_at;
+pub use columns::state_with;
 pub use columns::task_at;
-pub use legality::legal;
 pub use section::in_section;
 pub use section::last_held;
 pub use section::left_at;
+pub use section::remaining;
 pub use section::section_left;
 
 // Budget left and section length left are two counts, of two types: one never stands for the other.

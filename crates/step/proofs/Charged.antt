@@ -18,12 +18,12 @@ use Rattle.state.specs.Update.{withTask, withUsed, started}
 use Rattle.state.specs.Sized.{Sized}
 use Rattle.state.proofs.Update.{held-sized, taskAt-withTask, taskAt-withTask-other, leftOf-withTask, refillOf-withTask, usedOf-withTask, sized-withTask, leftOf-withLeft, leftOf-withLeft-other, taskAt-withLeft, refillOf-withLeft, usedOf-withLeft, sized-withLeft, usedOf-withUsed, usedOf-withUsed-other, sized-withUsed}
 use Rattle.state.proofs.TaskUpdate.{started-section, started-last, started-sized}
-use Rattle.state.proofs.TaskKept.{started-legal}
-use Rattle.state.proofs.Facts.{NoSection}
-use Rattle.state.proofs.Parts.{Tasks, legal-tasks, legal-counts}
-use Rattle.state.proofs.Counts.{SameCounts, SameSection, counts-out}
-use Rattle.state.proofs.Replaced.{Fits}
-use Rattle.state.proofs.Changed.{Changed, all-outside, inside-legal, outside-legal, counts-legal}
+use Rattle.legal.proofs.TaskKept.{started-legal}
+use Rattle.legal.proofs.Facts.{NoSection}
+use Rattle.legal.proofs.Parts.{Tasks, legal-tasks, legal-counts}
+use Rattle.legal.proofs.Counts.{SameCounts, SameSection, counts-out}
+use Rattle.legal.proofs.Replaced.{Fits}
+use Rattle.legal.proofs.Changed.{Changed, all-outside, inside-legal, outside-legal, counts-legal}
 use Rattle.choice.specs.Choice.{runs}
 use Rattle.choice.proofs.Taken.{Takes}
 use Rattle.choice.proofs.Running.{runs-waiting, runs-going, runs-nobody}

@@ -14,7 +14,7 @@ use Rattle.state.specs.Update.{withTask, withUsed, started}
 use Rattle.state.proofs.TaskUpdate.{started-section}
 use Rattle.step.specs.Lent.{spentAt}
 use Rattle.step.specs.Events.{lengthFitsBudget, withTaken, endedTask}
-use Rattle.step.specs.declared.Shut.{Shut}
+use Rattle.step.specs.Tick.{Shut}
 use Rattle.step.specs.Tick.{shutOne, givenWaited, ran}
 use Rattle.step.proofs.Charged.{ran-inside, ran-outside}
 

@@ -13,8 +13,8 @@ use Rattle.plan.proofs.Facts.{row-there}
 use Rattle.state.specs.declared.State.{State}
 use Rattle.state.specs.State.{taskAt, leftOf, refillOf, usedOf}
 use Rattle.state.specs.Sized.{Sized}
-use Rattle.state.proofs.Parts.{CountsAt, NoCounts, legal-tasks, legal-counts, legal-absent, legal-of}
-use Rattle.state.proofs.Changed.{tasks-same}
+use Rattle.legal.proofs.Parts.{CountsAt, NoCounts, legal-tasks, legal-counts, legal-absent, legal-of}
+use Rattle.legal.proofs.Changed.{tasks-same}
 use Rattle.step.specs.Tick.{refilled}
 use Rattle.step.proofs.Kept.{Kept}
 

@@ -20,11 +20,11 @@ use Rattle.state.specs.State.{idleTask, taskAt, isIdle, inSection}
 use Rattle.state.specs.Update.{withTask, withUsed}
 use Rattle.state.proofs.Update.{taskAt-withTask, taskAt-withTask-other, taskAt-withUsed}
 use Rattle.state.proofs.TaskUpdate.{idle-sized}
-use Rattle.state.proofs.Tasks.{section-count}
+use Rattle.legal.proofs.Tasks.{section-count}
 use Rattle.choice.specs.declared.Choice.{Choice}
 use Rattle.choice.specs.Choice.{chosenTask}
 use Rattle.step.specs.declared.Rows.{Rows}
-use Rattle.step.specs.declared.Shut.{Shut}
+use Rattle.step.specs.Tick.{Shut}
 use Rattle.step.specs.Lent.{Lent, Chooses, Settles, spentAt}
 use Rattle.step.specs.Events.{endedTask}
 use Rattle.step.specs.Tick.{isSpent, shutOne, shutTurns, shutSpent}

@@ -20,14 +20,14 @@ use Rattle.state.specs.Update.{withTask, withUsed, started}
 use Rattle.state.specs.Sized.{Sized}
 use Rattle.state.proofs.Update.{held-sized, taskAt-withTask, taskAt-withTask-other, usedOf-withTask, sized-withTask, taskAt-withUsed, usedOf-withUsed, usedOf-withUsed-other}
 use Rattle.state.proofs.TaskUpdate.{started-section, started-last, started-sized, taking-sized}
-use Rattle.state.proofs.Tasks.{section-engaged}
-use Rattle.state.proofs.Parts.{legal-tasks}
-use Rattle.state.proofs.Changed.{OthersOutside, engaged-others}
+use Rattle.legal.proofs.Tasks.{section-engaged}
+use Rattle.legal.proofs.Parts.{legal-tasks}
+use Rattle.legal.proofs.Changed.{OthersOutside, engaged-others}
 use Rattle.choice.specs.Choice.{chosen, taken, runs, chosenTask}
 use Rattle.choice.proofs.Taken.{Takes, taken-cases}
 use Rattle.choice.proofs.Running.{runs-going}
 use Rattle.choice.proofs.ChosenFacts.{Chosen, by-level, by-holding, nobody, chosen-cases, ByHolding, holder-taken}
-use Rattle.step.specs.declared.Shut.{Shut}
+use Rattle.step.specs.Tick.{Shut}
 use Rattle.step.specs.declared.Outcome.{Outcome}
 use Rattle.step.specs.Events.{lengthFitsBudget, withTaken}
 use Rattle.step.specs.Tick.{shutSpent, givenWaited, charged, ran, refilled, tickIn, tickIdle, tickAfter, ticked}

@@ -14,14 +14,14 @@ use Rattle.plan.specs.Facts.{Accepted}
 use Rattle.state.specs.declared.State.{State}
 use Rattle.state.specs.State.{taskAt, leftOf, isWaiting, isActive, holds}
 use Rattle.state.specs.Sized.{Sized}
-use Rattle.state.specs.Facts.{Legal}
-use Rattle.state.proofs.Facts.{NoSection}
-use Rattle.state.proofs.Tasks.{section-active}
-use Rattle.state.proofs.Parts.{legal-counts}
+use Rattle.legal.specs.Facts.{Legal}
+use Rattle.legal.proofs.Facts.{NoSection}
+use Rattle.legal.proofs.Tasks.{section-active}
+use Rattle.legal.proofs.Parts.{legal-counts}
 use Rattle.choice.specs.Choice.{chosen, taken, runs, chosenTask}
 use Rattle.choice.proofs.Taken.{Takes, taken-cases}
 use Rattle.choice.proofs.ChosenFacts.{Chosen, by-level, by-holding, nobody, chosen-cases, chosen-there, holder-taken}
-use Rattle.step.specs.declared.Shut.{Shut}
+use Rattle.step.specs.Tick.{Shut}
 use Rattle.step.specs.declared.Outcome.{Outcome}
 use Rattle.step.specs.Tick.{isSpent, shutSpent, givenWaited, charged, ran, tickIn, tickIdle, tickAfter, ticked}
 use Rattle.step.proofs.Kept.{Kept}

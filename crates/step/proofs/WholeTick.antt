@@ -19,9 +19,9 @@ use Rattle.state.specs.declared.State.{State}
 use Rattle.state.specs.State.{mostHeld, taskAt, usedOf, inSection}
 use Rattle.state.proofs.Update.{taskAt-past}
 use Rattle.state.proofs.TaskUpdate.{idle-count}
-use Rattle.state.proofs.Tasks.{section-global, section-there, section-declares}
+use Rattle.legal.proofs.Tasks.{section-global, section-there, section-declares}
 use Rattle.choice.specs.Choice.{chosen, taken, runs, chosenTask}
-use Rattle.step.specs.declared.Shut.{Shut}
+use Rattle.step.specs.Tick.{Shut}
 use Rattle.step.specs.declared.tick.Settled.{Settled}
 use Rattle.step.specs.Lent.{Settles}
 use Rattle.step.specs.Tick.{givenWaited, charged, ran, refilled, tickAnswer, tickIn, tickIdle, tickAfter, ticked}

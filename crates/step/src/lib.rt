@@ -94,7 +94,7 @@ pub fn step(p: Plan, s: State, kind: u32, task: u32, resource: u32) -> Outcome
         return unread(s, 31);
     }
     let ceilings = plan::ceilings(p);
-    if !state::legal(p, ceilings, s) {
+    if !legal::legal(p, ceilings, s) {
         return unread(s, 32);
     }
     stepped(rows_with(p, ceilings), &p.lengths, s, kind, task, resource)
