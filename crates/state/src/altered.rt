@@ -22,8 +22,8 @@ pub fn put_task(
     k: u8,
     t: Task,
 )
-    ensures { λ x. ⌜ ((q : Clocks) → Sized (stateWith q (now (conditions .entry)) (now (waits .entry)) (now (counts .entry)) (now (held .entry)))
-        → stateWith q (now (conditions .exit)) (now (waits .exit)) (now (counts .exit)) (now (held .exit))
+    ensures { λ x. ⌜ ((q₀ : Clocks) → Sized (stateWith q₀ (now (conditions .entry)) (now (waits .entry)) (now (counts .entry)) (now (held .entry)))
+        → (q : Clocks) → stateWith q (now (conditions .exit)) (now (waits .exit)) (now (counts .exit)) (now (held .exit))
         ≡ withTask (stateWith q (now (conditions .entry)) (now (waits .entry)) (now (counts .entry)) (now (held .entry))) k t) ⌝ }
 {
     if k < 32 {

@@ -15,9 +15,8 @@ use Rattle.state.specs.declared.State.{State}
 use Rattle.state.specs.State.{leftOf, refillOf}
 use Rattle.choice.specs.Choice.{chosen, taken, runs}
 use Rattle.choice.proofs.ChosenFacts.{chosen-there, budget-chosen}
-use Rattle.step.specs.Tick.{Shut}
 use Rattle.step.specs.declared.Outcome.{Outcome}
-use Rattle.step.specs.Tick.{shutSpent, givenWaited, charged, ran, refilled, tickIn, tickIdle, tickAfter, ticked}
+use Rattle.step.specs.Tick.{Shut, shutSpent, givenWaited, charged, ran, refilled, tickIn, tickIdle, tickAfter, ticked}
 use Rattle.step.proofs.Kept.{Kept}
 use Rattle.step.proofs.Charged.{charged-left, charged-refill, charged-elsewhere}
 use Rattle.step.proofs.Refilled.{refilled-left-now, refilled-refill-now, refilled-left-later, refilled-refill-later}

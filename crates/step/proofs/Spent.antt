@@ -25,9 +25,8 @@ use Rattle.legal.proofs.Parts.{legal-tasks}
 use Rattle.legal.proofs.Changed.{engaged-others}
 use Rattle.choice.specs.Choice.{chosen, chosenTask}
 use Rattle.choice.proofs.Taken.{Takes, taken-takes}
-use Rattle.step.specs.Tick.{Shut}
 use Rattle.step.specs.Events.{endedTask}
-use Rattle.step.specs.Tick.{isSpent, shutOne, shutTurns, shutSpent}
+use Rattle.step.specs.Tick.{Shut, isSpent, shutOne, shutTurns, shutSpent}
 use Rattle.step.proofs.Kept.{Kept}
 use Rattle.step.proofs.Freed.{shut-kept}
 

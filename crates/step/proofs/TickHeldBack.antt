@@ -27,10 +27,9 @@ use Rattle.choice.specs.Choice.{chosen, taken, runs, chosenTask}
 use Rattle.choice.proofs.Taken.{Takes, taken-cases}
 use Rattle.choice.proofs.Running.{runs-going}
 use Rattle.choice.proofs.ChosenFacts.{Chosen, by-level, by-holding, nobody, chosen-cases, ByHolding, holder-taken}
-use Rattle.step.specs.Tick.{Shut}
 use Rattle.step.specs.declared.Outcome.{Outcome}
 use Rattle.step.specs.Events.{lengthFitsBudget, withTaken}
-use Rattle.step.specs.Tick.{shutSpent, givenWaited, charged, ran, refilled, tickIn, tickIdle, tickAfter, ticked}
+use Rattle.step.specs.Tick.{Shut, shutSpent, givenWaited, charged, ran, refilled, tickIn, tickIdle, tickAfter, ticked}
 use Rattle.step.specs.Strict.{strictOf}
 use Rattle.step.proofs.Kept.{Kept}
 use Rattle.step.proofs.Charged.{ran-inside, ran-outside, ran-nobody, charged-sized, charged-tasks, charged-used}

@@ -21,9 +21,8 @@ use Rattle.legal.proofs.Parts.{legal-counts}
 use Rattle.choice.specs.Choice.{chosen, taken, runs, chosenTask}
 use Rattle.choice.proofs.Taken.{Takes, taken-cases}
 use Rattle.choice.proofs.ChosenFacts.{Chosen, by-level, by-holding, nobody, chosen-cases, chosen-there, holder-taken}
-use Rattle.step.specs.Tick.{Shut}
 use Rattle.step.specs.declared.Outcome.{Outcome}
-use Rattle.step.specs.Tick.{isSpent, shutSpent, givenWaited, charged, ran, tickIn, tickIdle, tickAfter, ticked}
+use Rattle.step.specs.Tick.{Shut, isSpent, shutSpent, givenWaited, charged, ran, tickIn, tickIdle, tickAfter, ticked}
 use Rattle.step.proofs.Kept.{Kept}
 use Rattle.step.proofs.Charged.{nobody-run-kept, task-run-kept}
 use Rattle.step.proofs.Refilled.{refilled-kept}

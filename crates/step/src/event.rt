@@ -33,7 +33,7 @@ use state::waiting_for;
 use state::with_used;
 
 // What an event of kind 0 to 3 answers, and what it makes of its task and of the clocks.
-struct Done {
+struct Effect {
     answer: u8,
     task: Task,
     clocks: Clocks,
@@ -64,12 +64,12 @@ fn answered<'a>(
 }
 
 // A local resource is taken; a global one if its length is at most the budget left, otherwise the task waits.
-fn locked(rows: Rows, lengths: &[u16], q: Clocks, t: Task, k: u8, r: u8) -> Done
+fn locked(rows: Rows, lengths: &[u16], q: Clocks, t: Task, k: u8, r: u8) -> Effect
     ensures { λ x. ⌜ ((p : Plan) (conditions waits counts held : List ℕ) → RowsOf p rows (now (lengths .entry)) → t ≡ taskAt (stateWith q conditions waits counts held) k → t .count < 255
         → answered p (withTask (stateWith (x .clocks) conditions waits counts held) k (x .task)) (x .answer) ≡ locked p (stateWith q conditions waits counts held) k r) ⌝ }
 {
     if !is_global(&rows.kinds, r) {
-        return Done {
+        return Effect {
             answer: 0,
             task: taking(t, r),
             clocks: q,
@@ -77,13 +77,13 @@ fn locked(rows: Rows, lengths: &[u16], q: Clocks, t: Task, k: u8, r: u8) -> Done
     }
     let left = q.left;
     if length_fits_budget(&rows.owners, lengths, left, k, r) {
-        return Done {
+        return Effect {
             answer: 0,
             task: taking(t, r),
             clocks: q,
         };
     }
-    Done {
+    Effect {
         answer: 1,
         task: waiting_for(t, r),
         clocks: q,
@@ -102,24 +102,24 @@ fn unlocked(rows: Rows, q: Clocks, k: u8, r: u8) -> Clocks
 }
 
 // An event of kind 0 to 3 that no refusal applies to.
-fn done(rows: Rows, lengths: &[u16], q: Clocks, t: Task, kind: u8, k: u8, r: u8) -> Done
+fn done(rows: Rows, lengths: &[u16], q: Clocks, t: Task, kind: u8, k: u8, r: u8) -> Effect
     requires { ⌜ kind ≤ 3 ⌝ }
     ensures { λ x. ⌜ ((p : Plan) (conditions waits counts held : List ℕ) → RowsOf p rows (now (lengths .entry)) → t ≡ taskAt (stateWith q conditions waits counts held) k → t .count < 255
         → answered p (withTask (stateWith (x .clocks) conditions waits counts held) k (x .task)) (x .answer) ≡ done p (stateWith q conditions waits counts held) kind k r) ⌝ }
 {
     match kind {
-        0 => Done {
+        0 => Effect {
             answer: 0,
             task: readied(t),
             clocks: q,
         },
         1 => locked(rows, lengths, q, t, k, r),
-        2 => Done {
+        2 => Effect {
             answer: 0,
             task: giving_back(t),
             clocks: unlocked(rows, q, k, r),
         },
-        _ => Done {
+        _ => Effect {
             answer: 0,
             task: idle_task(),
             clocks: q,

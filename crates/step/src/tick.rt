@@ -55,11 +55,10 @@ fn is_spent<'a, 'b>(
     if !in_section(&rows.kinds, task_at(conditions, waits, counts, held, k)) {
         return false;
     }
-    let used = q.used;
     let left = section_left(
         &rows.owners,
         lengths,
-        &used,
+        &q.used,
         conditions,
         waits,
         counts,
@@ -118,7 +117,16 @@ fn settle(
     let mut c = chosen(rows, left, conditions, counts, held);
     let mut turn: u8 = 0;
     while turn < rows.subsystems {
-        if !is_spent(rows, lengths, clocks, conditions, waits, counts, held, c.task) {
+        if !is_spent(
+            rows,
+            lengths,
+            clocks,
+            conditions,
+            waits,
+            counts,
+            held,
+            c.task,
+        ) {
             break;
         }
         clocks = shut_one(rows, clocks, conditions, waits, counts, held, c.task);

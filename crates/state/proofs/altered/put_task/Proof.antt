@@ -58,10 +58,10 @@ element-write-held-4 c = omega arith
 
 returns : tie.Need-returns
 unfolding withTask withHeld
-returns c = λ q Z. cc
+returns c = λ q₀ Z q. cc
 
 returns-2 : tie.Need-returns-2
-returns-2 c = λ q Z. withTask-past _ _ _ (Z .conditions) (Z .waits) (Z .counts) (Z .held) (c .if1 .left)
+returns-2 c = λ q₀ Z q. withTask-past _ _ _ (Z .conditions) (Z .waits) (Z .counts) (Z .held) (c .if1 .left)
 
 pub put-task-spec : {M : Type 1} → statement M
 put-task-spec =
