@@ -2,6 +2,7 @@ pub mod Fitting
 pub mod Kept
 pub mod Taking
 pub mod Freed
+pub mod Pays
 pub mod Charged
 pub mod Refilled
 pub mod Refusals

@@ -17,7 +17,7 @@ use Rattle.plan.specs.Facts.{Accepted}
 use Rattle.plan.proofs.Facts.{row-there}
 use Rattle.state.specs.declared.State.{State}
 use Rattle.state.specs.State.{mostHeld, taskAt, usedOf, inSection}
-use Rattle.state.proofs.Update.{taskAt-past}
+use Rattle.state.proofs.Update.{taskAt-past, usedOf-withLeft}
 use Rattle.state.proofs.TaskUpdate.{idle-count}
 use Rattle.state.proofs.Tasks.{section-global, section-there, section-declares}
 use Rattle.choice.specs.Choice.{chosen, taken, runs, chosenTask}
@@ -26,7 +26,6 @@ use Rattle.step.specs.declared.tick.Settled.{Settled}
 use Rattle.step.specs.Lent.{Settles}
 use Rattle.step.specs.Tick.{givenWaited, charged, ran, refilled, tickAnswer, tickIn, tickIdle, tickAfter, ticked}
 use Rattle.step.proofs.Kept.{Kept}
-use Rattle.step.proofs.Charged.{charged-used}
 use Rattle.step.proofs.Spent.{Unspent, shut-unspent}
 use Rattle.step.proofs.Ticked.{given-kept}
 
@@ -128,7 +127,8 @@ module _ (p : Plan) (s : State) (A : Accepted p) (S : Kept p s) (x : Settled) (T
 
   -- (c) has room for one tick more
   pub used-room : (given : State) → given ≡ givenWaited p (x .state) (x .task) → (paid : State) → paid ≡ charged given (x .subsystem) → (c : ℕ) → usedOf paid c < 65535
-  used-room given eg paid ep c = rw (ep, charged-used given (x .subsystem) c) (omega (arith, used-most p given A (rw eg given-legal) c))
+  unfolding charged
+  used-room given eg paid ep c = rw (ep, usedOf-withLeft given (x .subsystem) _ c) (omega (arith, used-most p given A (rw eg given-legal) c))
 
   -- with one
   pub ticked-in : (x .subsystem ≡ noRow → ⊥) → (j a : ℕ) (given paid after u : State) → given ≡ givenWaited p (x .state) (x .task) → j ≡ runs given (x .task)
