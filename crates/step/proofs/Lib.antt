@@ -12,6 +12,7 @@ pub mod Spent
 pub mod Waited
 pub mod Ticked
 pub mod Cases
+pub mod Afterwards
 pub mod Stepped
 pub mod Strict
 pub mod Still
