@@ -1,8 +1,9 @@
 /* The calls of Skrzypolot for a host in C, over byte buffers and numbers.
  *
  * Each call returns 0 or a number of the tables below. A call touches only what it is lent and keeps nothing between calls, so calls on
- * different buffers may run on different threads. No buffer needs an alignment. Buffers lent to one call must not overlap, and each
- * pointer must hold what its length says; nothing can check that here.
+ * different buffers may run on different threads. No buffer needs an alignment. Buffers lent to one call must not overlap, each pointer
+ * must hold what its length says, and none may be null, not even with length 0; nothing can check that here. Of the C library the calls
+ * use memcpy and memset, and they allocate nothing.
  *
  * Answers of an event:
  *    0  done                                           6  the job holds a global, or holds this one
@@ -66,7 +67,7 @@ uint32_t skrzypolot_step(const uint8_t *block, size_t block_len, uint8_t *image,
 
 /* One event line, with its line feed, on the state of the image: steps, and writes the printed line with the event number given at
  * out[*fill], which moves on. 0 to 11, the answer; anything that is no event line is an 11. 34, 31, 32 or 33: everything is kept, so that
- * with 33 a host can empty the buffer and send the same line again. A printed line has 128 bytes at most. */
+ * with 33 a host can empty the buffer and send the same line again. A printed line has 109 bytes at most. */
 uint32_t skrzypolot_line(const uint8_t *block, size_t block_len, uint8_t *image, size_t image_len, uint32_t number, const uint8_t *line,
                          size_t line_len, uint8_t *out, size_t out_len, size_t *fill);
 
