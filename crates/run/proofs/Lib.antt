@@ -15,6 +15,7 @@ pub mod TakenLines
 pub mod WholeLines
 pub mod FirstLines
 pub mod LineLoop
+pub mod RoomyLines
 pub mod OutTwice
 pub mod FedFacts
 pub mod PutLines
