@@ -19,7 +19,7 @@ use Rattle.plan.specs.Ceiling.{globalCeiling, ceiling}
 use Rattle.plan.specs.Facts.{Accepted}
 use Rattle.state.specs.declared.State.{State}
 use Rattle.state.specs.State.{taskAt, leftOf, hasBudget, lastHeld, inSection}
-use Rattle.state.specs.Facts.{Legal}
+use Rattle.legal.specs.Facts.{Legal}
 use Rattle.choice.specs.Choice.{holdsAtCeiling, systemCeiling, ceilingHolder, chosen}
 use Rattle.choice.specs.Columns.{Found, ownerOf, chosenBy}
 use Rattle.choice.proofs.Columns.{owner-none, owner-there, chosen-budget, chosen-holder}

@@ -20,9 +20,9 @@ use Rattle.plan.proofs.CeilingLaws.{globalCeiling-there}
 use Rattle.plan.proofs.Facts.{row-there}
 use Rattle.state.specs.declared.State.{State}
 use Rattle.state.specs.State.{taskAt, leftOf, hasBudget, lastHeld, inSection}
-use Rattle.state.specs.Facts.{Legal}
-use Rattle.state.proofs.Tasks.{section-engaged, section-declares}
-use Rattle.state.proofs.Parts.{legal-tasks}
+use Rattle.legal.specs.Facts.{Legal}
+use Rattle.legal.proofs.Tasks.{section-engaged, section-declares}
+use Rattle.legal.proofs.Parts.{legal-tasks}
 use Rattle.choice.specs.Choice.{holdsAtCeiling, systemCeiling, ceilingHolder, chosen, taken}
 use Rattle.choice.proofs.Taken.{taken-engaged}
 

@@ -18,7 +18,7 @@ use Rattle.plan.specs.Facts.{Accepted}
 use Rattle.state.specs.declared.Task.{Task}
 use Rattle.state.specs.declared.State.{State}
 use Rattle.state.specs.State.{taskAt, heldAt, lastHeld, inSection}
-use Rattle.state.specs.Facts.{Legal, HeldLegal}
+use Rattle.legal.specs.Facts.{Legal, HeldLegal}
 use Rattle.choice.specs.Choice.{holdsAtCeiling, systemCeiling}
 use Rattle.choice.specs.Columns.{sectionCeiling}
 use Rattle.choice.proofs.Columns.{ceiling-in, ceiling-out}

@@ -15,8 +15,8 @@ use Rattle.plan.proofs.Facts.{row-there}
 use Rattle.state.specs.declared.Task.{Task}
 use Rattle.state.specs.declared.State.{State}
 use Rattle.state.specs.State.{taskAt, isReady, isActive, heldAt}
-use Rattle.state.proofs.Parts.{Engaged, Tasks}
-use Rattle.state.proofs.Tasks.{engaged-active}
+use Rattle.legal.proofs.Parts.{Engaged, Tasks}
+use Rattle.legal.proofs.Tasks.{engaged-active}
 use Rattle.choice.specs.Choice.{orNoRow, belowLocals, keptFromReady, mayBeTaken, taken}
 
 -- task k is ready, no task of c waits or holds a global, and k is below every ceiling of a local resource held in c

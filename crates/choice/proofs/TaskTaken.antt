@@ -16,7 +16,7 @@ use Rattle.plan.specs.Ceiling.{localCeiling, ceiling}
 use Rattle.plan.specs.Facts.{Accepted}
 use Rattle.state.specs.declared.State.{State}
 use Rattle.state.specs.State.{taskAt, isReady, isWaiting, isStarted, isActive, heldAt, lastHeld, inSection}
-use Rattle.state.specs.Facts.{Legal}
+use Rattle.legal.specs.Facts.{Legal}
 use Rattle.choice.specs.Choice.{orNoRow, belowLocals, keptFromReady, mayBeTaken, taken}
 use Rattle.choice.specs.Columns.{localAt, belowHeld, belowHeldIn, keeps, keepsIn, unbarred, takenBelow}
 use Rattle.choice.proofs.Columns.{local-global, local-local}

@@ -8,7 +8,7 @@ use Rattle.plan.specs.Ceiling.{ceiling}
 use Rattle.plan.specs.Facts.{Accepted}
 use Rattle.state.specs.declared.BudgetLeft.{BudgetLeft}
 use Rattle.state.specs.declared.State.{State}
-use Rattle.state.specs.Facts.{Legal}
+use Rattle.legal.specs.Facts.{Legal}
 
 pub record Lent (p : Plan) (s : State) (subsystems tasks : ℕ) (owners kinds ceilings : List ℕ) (left : List BudgetLeft) (conditions counts held : List ℕ) : Type 0 where
   pub accepted : Accepted p

@@ -15,7 +15,7 @@ use Rattle.plan.specs.Accepted.{accepted}
 use Rattle.plan.specs.Ceiling.{ceiling}
 use Rattle.state.specs.declared.State.{State}
 use Rattle.state.specs.Sized.{Sized}
-use Rattle.state.specs.Legal.{legal}
+use Rattle.legal.specs.Legal.{legal}
 use Rattle.image.specs.declared.Opened.{Opened}
 use Rattle.image.specs.Block.{blockBytes, isBlock, planOf}
 use Rattle.image.specs.Image.{imageBytes, isImage, stateOf, imageOf}

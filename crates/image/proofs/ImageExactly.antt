@@ -11,7 +11,7 @@ use Rattle.below.proofs.Tests.{clash, and-left, and-right}
 use Rattle.plan.specs.declared.Plan.{Plan}
 use Rattle.state.specs.declared.State.{State}
 use Rattle.state.specs.Sized.{Sized}
-use Rattle.state.specs.Legal.{legal}
+use Rattle.legal.specs.Legal.{legal}
 use Rattle.image.specs.Image.{imageBytes, imageOf, stateOf, isImage, imageNumber}
 use Rattle.image.specs.HasState.{HasState}
 use Rattle.image.proofs.BlockLaws.{same-refl, same-true}

@@ -17,8 +17,8 @@ use Rattle.text.specs.Bytes.{same}
 use Rattle.plan.specs.declared.Plan.{Plan}
 use Rattle.plan.specs.Limits.{mostSubsystems, mostTasks, noRow}
 use Rattle.state.specs.State.{mostHeld, heldPlace, taskAt, leftOf, refillOf, usedOf}
-use Rattle.state.specs.Legal.{legal}
 use Rattle.state.specs.Sized.{Sized}
+use Rattle.legal.specs.Legal.{legal}
 use Rattle.image.specs.Words.{word, byteAt, wordAt}
 use Rattle.image.specs.Image.{imageBytes, subsystemBytes, taskBytes, joined, imageOf, taskByteAt, stateOf, isImage}
 use Rattle.image.specs.Pads.{subsystemPad, taskPad, padsZero}

@@ -13,7 +13,7 @@ use Rattle.plan.specs.declared.Plan.{Plan}
 use Rattle.plan.specs.Accepted.{accepted}
 use Rattle.plan.specs.Ceiling.{ceiling}
 use Rattle.state.specs.declared.State.{State}
-use Rattle.state.specs.Legal.{legal}
+use Rattle.legal.specs.Legal.{legal}
 use Rattle.image.specs.declared.Block.{Block}
 use Rattle.image.specs.declared.Opened.{Opened}
 use Rattle.image.specs.Block.{blockBytes, planOf, isBlock}

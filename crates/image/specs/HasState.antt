@@ -6,7 +6,7 @@ use Prim.Native.Nat.{ℕ}
 use Rattle.plan.specs.declared.Plan.{Plan}
 use Rattle.state.specs.declared.State.{State}
 use Rattle.state.specs.Sized.{Sized}
-use Rattle.state.specs.Legal.{legal}
+use Rattle.legal.specs.Legal.{legal}
 use Rattle.image.specs.Image.{imageOf}
 
 -- some legal state has the image

@@ -12,7 +12,7 @@ use Rattle.state.specs.declared.BudgetLeft.{BudgetLeft}
 use Rattle.state.specs.declared.Task.{Task}
 use Rattle.state.specs.declared.State.{State}
 use Rattle.state.specs.State.{mostHeld, taskAt, leftOf, refillOf, usedOf}
-use Rattle.state.specs.Legal.{legal}
+use Rattle.legal.specs.Legal.{legal}
 use Rattle.image.specs.Words.{word, byteAt, wordAt}
 
 -- the length of a state image

@@ -168,7 +168,7 @@ pub fn open(block: &[u8], image: &[u8]) -> Opened
     let plan = b.plan;
     let ceilings = plan::ceilings(plan);
     let state = read_state(image);
-    if !state::legal(plan, ceilings, state) {
+    if !legal::legal(plan, ceilings, state) {
         return nothing(32);
     }
     Opened {

@@ -17,10 +17,9 @@ use Rattle.state.specs.State.{taskAt}
 use Rattle.state.specs.Update.{withTask, waitingFor}
 use Rattle.choice.specs.Choice.{chosen}
 use Rattle.step.specs.declared.Outcome.{Outcome}
-use Rattle.step.specs.declared.Shut.{Shut}
 use Rattle.step.specs.Refusals.{release, lock, unlock, end, tick, orderTable, firstRefusal, refuses, refusal}
 use Rattle.step.specs.Events.{answered, released, lengthFitsBudget, withTaken, locked, unlocked, endedTask}
-use Rattle.step.specs.Tick.{shutSpent, tickAnswer, tickIn, tickIdle, tickAfter, ticked}
+use Rattle.step.specs.Tick.{Shut, shutSpent, tickAnswer, tickIn, tickIdle, tickAfter, ticked}
 use Rattle.step.specs.Step.{done, stepped}
 use Rattle.promise.specs.Budgets.{Event, outcomes}
 use Rattle.promise.proofs.Scheduler.{given}

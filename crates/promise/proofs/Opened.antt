@@ -15,9 +15,9 @@ use Rattle.reader.specs.Margin as ReaderMargin
 use Rattle.reader.specs.Numbers as ReaderNumbers
 use Rattle.reader.specs.Reading as ReaderReading
 use Rattle.state.specs.Fresh as StateFresh
-use Rattle.state.specs.Legal as StateLegal
 use Rattle.state.specs.State as StateState
 use Rattle.state.specs.Update as StateUpdate
+use Rattle.legal.specs.Legal as LegalLegal
 use Rattle.choice.specs.Choice as ChoiceChoice
 use Rattle.step.specs.Events as StepEvents
 use Rattle.step.specs.Refusals as StepRefusals
@@ -44,8 +44,12 @@ unfolding ReaderConditions.notGrammar ReaderConditions.kindOrder ReaderCondition
 readerOpen = tt
 
 unfoldable pub stateOpen : Unit {0}
-unfolding StateFresh.fresh StateLegal.implies StateLegal.countsLegal StateLegal.absentSubsystem StateLegal.wellWritten StateLegal.absentTask StateLegal.heldLegal StateLegal.restingLegal StateLegal.waitingLegal StateLegal.sectionLegal StateLegal.unusedLegal StateLegal.activeBefore StateLegal.localsLegal StateLegal.globalsLegal StateLegal.belowSection StateLegal.sectionsLegal StateLegal.subsystemLegal StateLegal.taskLegal StateLegal.legal StateState.idleTask StateState.heldPlace StateState.taskAt StateState.leftOf StateState.refillOf StateState.usedOf StateState.hasBudget StateState.isIdle StateState.isReady StateState.isStarted StateState.isWaiting StateState.isActive StateState.heldAt StateState.holds StateState.lastHeld StateState.inSection StateState.sectionLeft StateUpdate.withHeld StateUpdate.withTask StateUpdate.withLeft StateUpdate.withUsed StateUpdate.readied StateUpdate.started StateUpdate.waitingFor StateUpdate.taking StateUpdate.givingBack
+unfolding StateFresh.fresh StateState.idleTask StateState.heldPlace StateState.taskAt StateState.leftOf StateState.refillOf StateState.usedOf StateState.hasBudget StateState.isIdle StateState.isReady StateState.isStarted StateState.isWaiting StateState.isActive StateState.heldAt StateState.holds StateState.lastHeld StateState.inSection StateState.sectionLeft StateUpdate.withHeld StateUpdate.withTask StateUpdate.withLeft StateUpdate.withUsed StateUpdate.readied StateUpdate.started StateUpdate.waitingFor StateUpdate.taking StateUpdate.givingBack
 stateOpen = tt
+
+unfoldable pub legalOpen : Unit {0}
+unfolding LegalLegal.implies LegalLegal.countsLegal LegalLegal.absentSubsystem LegalLegal.wellWritten LegalLegal.absentTask LegalLegal.heldLegal LegalLegal.restingLegal LegalLegal.waitingLegal LegalLegal.sectionLegal LegalLegal.unusedLegal LegalLegal.activeBefore LegalLegal.localsLegal LegalLegal.globalsLegal LegalLegal.belowSection LegalLegal.sectionsLegal LegalLegal.subsystemLegal LegalLegal.taskLegal LegalLegal.legal
+legalOpen = tt
 
 unfoldable pub choiceOpen : Unit {0}
 unfolding ChoiceChoice.orNoRow ChoiceChoice.holdsAtCeiling ChoiceChoice.systemCeiling ChoiceChoice.ceilingHolder ChoiceChoice.chosen ChoiceChoice.belowLocals ChoiceChoice.keptFromReady ChoiceChoice.mayBeTaken ChoiceChoice.taken ChoiceChoice.runs ChoiceChoice.chosenTask ChoiceChoice.running
@@ -60,5 +64,5 @@ unfolding LineEvent.ofName LineEvent.ofFields LineEvent.eventOf LinePrinted.rowT
 lineOpen = tt
 
 unfoldable pub computes : Unit {0}
-unfolding belowOpen textOpen planOpen readerOpen stateOpen choiceOpen stepOpen lineOpen
+unfolding belowOpen textOpen planOpen readerOpen stateOpen legalOpen choiceOpen stepOpen lineOpen
 computes = tt

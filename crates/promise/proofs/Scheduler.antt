@@ -6,20 +6,19 @@ use Prim.Native.Nat.{ℕ, _+_, _*_, _≤_, _<_}
 use native.Mathlib.Omega.{arith}
 use borrow.Author.Tests.{leb-true, leb-false, eqb-true, eqb-false}
 use Rattle.below.specs.Quotient.{roundedUp}
-use Rattle.below.proofs.Listed.{getD-listed}
 use Rattle.below.proofs.Tests.{decided}
 use Rattle.supply.specs.System.{System}
 use Rattle.supply.specs.Assumed.{Assumed, Fresh, Pressed, atLeastAsHigh, sumHigh, charge}
 use Rattle.plan.specs.declared.Plan.{Plan}
-use Rattle.plan.specs.Limits.{mostSubsystems}
 use Rattle.plan.specs.Plan.{period, budget, level}
 use Rattle.plan.specs.Facts.{Accepted}
 use Rattle.plan.proofs.DemandLaws.{high-fits}
 use Rattle.state.specs.declared.State.{State}
 use Rattle.state.specs.State.{leftOf, refillOf}
 use Rattle.state.specs.Fresh.{fresh}
-use Rattle.state.proofs.Parts.{legal-counts}
-use Rattle.state.proofs.Fresh.{fresh-sized, fresh-legal}
+use Rattle.state.proofs.Fresh.{fresh-left, fresh-refill, fresh-sized}
+use Rattle.legal.proofs.Parts.{legal-counts}
+use Rattle.legal.proofs.Fresh.{fresh-legal}
 use Rattle.step.specs.declared.Outcome.{Outcome}
 use Rattle.step.specs.Refusals.{tick}
 use Rattle.step.specs.Tick.{ticked}
@@ -67,16 +66,6 @@ tick-given p s e t = rw (eqb-true (e .kind) tick t) (stepped-tick p s (e .task) 
 pub other-still : (p : Plan) (s : State) (e : Event) → isTick e ≡ false → Still s (given p s e .state)
 unfolding isTick
 other-still p s e t = stepped-still p s (e .kind) (e .task) (e .resource) (eqb-false (e .kind) tick t)
-
--- full budgets and full periods, where it starts
-
-fresh-left : (p : Plan) (h : ℕ) → h < mostSubsystems → leftOf (fresh p) h .0 ≡ budget p h
-unfolding leftOf fresh
-fresh-left p h l = rw (getD-listed mostSubsystems _ h _ l)
-
-fresh-refill : (p : Plan) (h : ℕ) → h < mostSubsystems → refillOf (fresh p) h ≡ period p h
-unfolding refillOf fresh
-fresh-refill p h l = getD-listed mostSubsystems _ h 0 l
 
 module _ (p : Plan) (A : Accepted p) where
   -- a row at least as high is busy

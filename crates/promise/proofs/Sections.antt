@@ -16,9 +16,9 @@ use Rattle.plan.specs.Facts.{Accepted}
 use Rattle.plan.proofs.Facts.{accepted-facts}
 use Rattle.state.specs.declared.State.{State}
 use Rattle.state.specs.State.{taskAt, sectionLeft}
-use Rattle.state.specs.Facts.{Legal}
-use Rattle.state.proofs.Facts.{legal-facts}
-use Rattle.state.proofs.Tasks.{section-global, section-declares}
+use Rattle.legal.specs.Facts.{Legal}
+use Rattle.legal.proofs.Facts.{legal-facts}
+use Rattle.legal.proofs.Tasks.{section-global, section-declares}
 use Rattle.step.specs.Step.{stepped}
 use Rattle.step.specs.Strict.{holdsBack, strictOf}
 use Rattle.step.proofs.Kept.{Kept}

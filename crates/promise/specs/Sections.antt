@@ -12,7 +12,7 @@ use Rattle.plan.specs.Accepted.{accepted}
 use Rattle.state.specs.declared.State.{State}
 use Rattle.state.specs.State.{taskAt, leftOf, lastHeld, inSection, sectionLeft}
 use Rattle.state.specs.Sized.{Sized}
-use Rattle.state.specs.Legal.{legal}
+use Rattle.legal.specs.Legal.{legal}
 use Rattle.step.specs.Step.{stepped}
 use Rattle.promise.specs.Budgets.{Event, outcomes, tickAnswers}
 

@@ -1,52 +1,63 @@
 // A state with one thing changed, and a task with one thing changed. All that the events alter goes through these.
 ghost use mathlib.Core.Path.{_≡_};
-ghost use Prim.Native.Nat.{_<_, _+_, _-_};
+ghost use mathlib.Core.List.{List};
+ghost use Prim.Native.Nat.{ℕ, _<_, _+_, _-_};
+ghost use Rattle.state.specs.declared.Clocks.{Clocks};
 ghost use Rattle.state.specs.State.{idleTask};
+ghost use Rattle.state.specs.Sized.{Sized};
+ghost use Rattle.state.specs.Lent.{stateWith};
 ghost use Rattle.state.specs.Update.{withTask, withLeft, withUsed, readied, started, waitingFor, taking, givingBack};
 use crate::BudgetLeft;
-use crate::State;
+use crate::Clocks;
 use crate::Task;
 use crate::columns::held_at;
 use crate::columns::held_place;
 
-// Another task at row k. A row past the end changes nothing.
-pub fn with_task(s: State, k: u8, t: Task) -> State
-    ensures { λ r. ⌜ r ≡ withTask s k t ⌝ }
+// Another task at row k of lent columns. A row past the end changes nothing.
+pub fn put_task(
+    conditions: &mut [u8; 32],
+    waits: &mut [u8; 32],
+    counts: &mut [u8; 32],
+    held: &mut [u8; 128],
+    k: u8,
+    t: Task,
+)
+    ensures { λ x. ⌜ ((q₀ : Clocks) → Sized (stateWith q₀ (now (conditions .entry)) (now (waits .entry)) (now (counts .entry)) (now (held .entry)))
+        → (q : Clocks) → stateWith q (now (conditions .exit)) (now (waits .exit)) (now (counts .exit)) (now (held .exit))
+        ≡ withTask (stateWith q (now (conditions .entry)) (now (waits .entry)) (now (counts .entry)) (now (held .entry))) k t) ⌝ }
 {
-    let mut next = s;
     if k < 32 {
         let i = k as usize;
-        next.conditions[i] = t.condition;
-        next.waits[i] = t.waits;
-        next.counts[i] = t.count;
+        conditions[i] = t.condition;
+        waits[i] = t.waits;
+        counts[i] = t.count;
         let first = held_place(k, 0);
-        next.held[first] = held_at(t, 0);
+        held[first] = held_at(t, 0);
         let second = held_place(k, 1);
-        next.held[second] = held_at(t, 1);
+        held[second] = held_at(t, 1);
         let third = held_place(k, 2);
-        next.held[third] = held_at(t, 2);
+        held[third] = held_at(t, 2);
         let fourth = held_place(k, 3);
-        next.held[fourth] = held_at(t, 3);
+        held[fourth] = held_at(t, 3);
     }
-    next
 }
 
 // Another budget left for subsystem c.
-pub fn with_left(s: State, c: u8, q: BudgetLeft) -> State
-    ensures { λ r. ⌜ r ≡ withLeft s c q ⌝ }
+pub fn with_left(q: Clocks, c: u8, left: BudgetLeft) -> Clocks
+    ensures { λ r. ⌜ ((conditions waits counts held : List ℕ) → stateWith r conditions waits counts held ≡ withLeft (stateWith q conditions waits counts held) c left) ⌝ }
 {
-    let mut next = s;
+    let mut next = q;
     if c < 8 {
-        next.left[c as usize] = q;
+        next.left[c as usize] = left;
     }
     next
 }
 
 // Another used count for subsystem c.
-pub fn with_used(s: State, c: u8, n: u16) -> State
-    ensures { λ r. ⌜ r ≡ withUsed s c n ⌝ }
+pub fn with_used(q: Clocks, c: u8, n: u16) -> Clocks
+    ensures { λ r. ⌜ ((conditions waits counts held : List ℕ) → stateWith r conditions waits counts held ≡ withUsed (stateWith q conditions waits counts held) c n) ⌝ }
 {
-    let mut next = s;
+    let mut next = q;
     if c < 8 {
         next.used[c as usize] = n;
     }

@@ -4,7 +4,9 @@ ghost use mathlib.Core.List.{[]};
 ghost use lib.ListN.{getD};
 ghost use Rattle.plan.specs.Limits.{noRow};
 ghost use Rattle.state.specs.State.{taskAt, heldPlace, heldAt};
-ghost use Rattle.state.specs.Lent.{columns};
+ghost use Rattle.state.specs.Lent.{columns, stateWith};
+use crate::Clocks;
+use crate::State;
 use crate::Task;
 use plan::tables::byte_at;
 
@@ -54,5 +56,29 @@ pub fn task_at<'a>(
         waits: row_at(waits, i),
         count: byte_at(counts, i),
         held: [first, second, third, fourth],
+    }
+}
+
+// The state of clocks and columns of tasks.
+pub fn state_with(
+    q: Clocks,
+    conditions: [u8; 32],
+    waits: [u8; 32],
+    counts: [u8; 32],
+    held: [u8; 128],
+) -> State
+    ensures { λ r. ⌜ r ≡ stateWith q conditions waits counts held ⌝ }
+{
+    let left = q.left;
+    let refill = q.refill;
+    let used = q.used;
+    State {
+        left,
+        refill,
+        used,
+        conditions,
+        waits,
+        counts,
+        held,
     }
 }

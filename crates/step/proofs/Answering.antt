@@ -14,19 +14,20 @@ use Rattle.plan.proofs.Facts.{row-there}
 use Rattle.state.specs.declared.Task.{Task}
 use Rattle.state.specs.declared.State.{State}
 use Rattle.state.specs.State.{idleTask, taskAt}
-use Rattle.state.specs.Update.{withTask, withUsed, waitingFor, givingBack}
-use Rattle.state.specs.Lent.{columns}
+use Rattle.state.specs.Update.{withTask, withUsed, readied, waitingFor, taking, givingBack}
+use Rattle.state.specs.Lent.{columns, stateWith}
 use Rattle.state.proofs.Update.{taskAt-past}
 use Rattle.choice.specs.declared.Choice.{Choice}
 use Rattle.choice.specs.Choice.{runs, running}
 use Rattle.choice.specs.Columns.{stateOf}
 use Rattle.choice.proofs.Held.{runs-lent}
 use Rattle.step.specs.declared.Rows.{Rows}
+use Rattle.step.specs.declared.Reply.{Reply}
 use Rattle.step.specs.declared.Outcome.{Outcome}
 use Rattle.step.specs.Refusals.{release, lock, unlock, end, refusal}
 use Rattle.step.specs.Events.{answered, released, lengthFitsBudget, withTaken, locked, unlocked, endedTask}
 use Rattle.step.specs.Step.{done, stepped}
-use Rattle.step.specs.Lent.{rowsOf, RowsOf, Lent, Asked, Chooses}
+use Rattle.step.specs.Lent.{rowsOf, RowsOf, Lent, outcomeWith, Asked, Chooses}
 use Rattle.step.proofs.Stepped.{stepped-legal, stepped-sized}
 use Rattle.step.proofs.Lending.{fits-lent}
 
@@ -86,22 +87,38 @@ module _ (p : Plan) (s : State) (k r : ℕ) (u : State) where
   unfolding locked
   locked-waits g f e = rw (e, locked, g, f)
 
-  pub made-waiting : (t w : Task) → t ≡ taskAt s k → w ≡ waitingFor t r → u ≡ withTask s k w → u ≡ withTask s k (waitingFor (taskAt s k) r)
-  made-waiting t w e f h = cc
+  -- by the task that the code made
+  module _ (t x : Task) (e : t ≡ taskAt s k) (d : u ≡ withTask s k x) where
+    pub made-taking : (t .count < 255 → x ≡ taking t r) → t .count < 255 → u ≡ withTaken s k r
+    unfolding withTaken
+    made-taking f h = d ∙ ap (withTask s k) (f h ∙ ap (λ (v : Task). taking v r) e)
+
+    pub made-waiting : x ≡ waitingFor t r → u ≡ withTask s k (waitingFor (taskAt s k) r)
+    made-waiting f = cc
 
 -- unlock
 
-pub given-back : (s : State) (k : ℕ) (t v : Task) (u : State) → t ≡ taskAt s k → v ≡ givingBack t → u ≡ withTask s k v → u ≡ withTask s k (givingBack (taskAt s k))
-given-back s k t v u e f h = cc
+module _ (p : Plan) (s : State) (k r : ℕ) where
+  pub unlocked-global : isGlobal p r ≡ true → (u : State) (c : ℕ) → u ≡ withUsed s c 0 → c ≡ owner p k → withTask u k (givingBack (taskAt s k)) ≡ unlocked p s k r
+  unfolding unlocked withTask withUsed
+  unlocked-global g u c h o = rw (h, o, unlocked, g)
 
-module _ (p : Plan) (s : State) (k r : ℕ) (u : State) (e : u ≡ withTask s k (givingBack (taskAt s k))) where
-  pub unlocked-global : isGlobal p r ≡ true → (x : State) (c : ℕ) → x ≡ withUsed u c 0 → c ≡ owner p k → x ≡ unlocked p s k r
+  pub unlocked-local : isGlobal p r ≡ false → withTask s k (givingBack (taskAt s k)) ≡ unlocked p s k r
   unfolding unlocked
-  unlocked-global g x c h o = rw (h, o, e, unlocked, g)
+  unlocked-local g = rw (unlocked, g)
 
-  pub unlocked-local : isGlobal p r ≡ false → u ≡ unlocked p s k r
-  unfolding unlocked
-  unlocked-local g = rw (e, unlocked, g)
+-- by the task that the code made
+
+pub made-ready : (s : State) (k : ℕ) (t x : Task) → t ≡ taskAt s k → x ≡ readied t → withTask s k x ≡ released s k
+unfolding released
+made-ready s k t x e f = ap (withTask s k) (f ∙ ap readied e)
+
+pub made-given : (s u : State) (k : ℕ) (t x : Task) → t ≡ taskAt s k → x ≡ givingBack t → withTask u k x ≡ withTask u k (givingBack (taskAt s k))
+made-given s u k t x e f = ap (withTask u k) (f ∙ ap givingBack e)
+
+pub made-idle : (s : State) (k : ℕ) (x : Task) → x ≡ idleTask → withTask s k x ≡ endedTask s k
+unfolding endedTask
+made-idle s k x e = ap (withTask s k) e
 
 -- by the kind
 
@@ -136,6 +153,11 @@ module _ (p : Plan) (s : State) (kind k r n : ℕ) (e : n ≡ refusal p s kind k
   pub stepped-done : n ≡ 0 → done p s kind k r ≡ stepped p s kind k r
   unfolding stepped
   stepped-done h = rw (stepped, ← e, eq-eqb n 0 h)
+
+-- a reply with a state made of what it leaves
+pub outcome-by : (r : Reply) (u : State) (conditions waits counts held : List ℕ) (o : Outcome) → u ≡ stateWith (r .clocks) conditions waits counts held
+    → outcomeWith r conditions waits counts held ≡ o → record { answer = r .answer; subsystem = r .subsystem; task = r .task; ended = r .ended; state = u } ≡ o
+outcome-by r u conditions waits counts held o e f = rw e f
 
 -- what is lent stays lent
 

@@ -28,79 +28,43 @@ pub record Cases (p : Plan) (s : State) (kind k r : ℕ) (C : State → Type 0) 
   pub on-end : refusal p s end k r ≡ 0 → C (endedTask s k)
   pub on-tick : kind ≡ tick → C (ticked p s .state)
 
+-- what holds of both ways of a test, whatever it is and wherever they lead
+pub either : {A : Type 0} (C : A → Type 0) (b : Bool) (x y : A) → (b ≡ true → C x) → (b ≡ false → C y) → C (elim b [ true ↦ x | false ↦ y ])
+either C true x y f g = f refl
+either C false x y f g = g refl
+
 module _ (p : Plan) (s : State) (kind k r : ℕ) (C : State → Type 0) (D : Cases p s kind k r C) where
   -- C of the state of an outcome
   Left : Outcome → Type 0
   Left o = C (o .state)
 
-  -- an answer leaves the state that it is given
-  answered-case : (u : State) (n : ℕ) → C u → Left (answered p u n)
-  unfolding Left answered
-  answered-case u n c = c
-
   -- a lock takes or waits
   lock-case : refusal p s lock k r ≡ 0 → Left (locked p s k r)
-  unfolding locked
-  lock-case e = go (isGlobal p r) refl (lengthFitsBudget p s k r) refl
-    where
-      go : (g : Bool) → isGlobal p r ≡ g → (f : Bool) → lengthFitsBudget p s k r ≡ f
-          → Left
-          (elim g [
-            | false ↦ answered p (withTaken s k r) 0
-            | true ↦ elim f [ true ↦ answered p (withTaken s k r) 0 | false ↦ answered p (withTask s k (waitingFor (taskAt s k) r)) 1 ]
-          ])
-      go false g f h = answered-case _ 0 (D .on-take e (λ q. absurd (clash q g)))
-      go true g true h = answered-case _ 0 (D .on-take e (λ q. h))
-      go true g false h = answered-case _ 1 (D .on-wait e g)
+  unfolding locked answered Left
+  lock-case e =
+      either Left _ _ _ (λ g. either Left _ _ _ (λ f. D .on-take e (λ q. f)) (λ f. D .on-wait e g)) (λ g. D .on-take e (λ q. absurd (clash q g)))
 
   -- an unlock gives back
   unlock-case : refusal p s unlock k r ≡ 0 → C (unlocked p s k r)
   unfolding unlocked
-  unlock-case e = go (isGlobal p r) refl
-    where
-      go : (g : Bool) → isGlobal p r ≡ g
-          → C (elim g [ true ↦ withUsed (withTask s k (givingBack (taskAt s k))) (owner p k) 0 | false ↦ withTask s k (givingBack (taskAt s k)) ])
-      go true g = D .on-unlock-global e g
-      go false g = D .on-unlock-local e g
+  unlock-case e = either C _ _ _ (D .on-unlock-global e) (D .on-unlock-local e)
 
   -- by the kind of the event
   done-case : refusal p s kind k r ≡ 0 → Left (done p s kind k r)
-  unfolding done Left
-  done-case e = go (eqb kind release) (eqb kind lock) (eqb kind unlock) (eqb kind end) (eqb kind tick) refl refl refl refl refl
+  unfolding done answered Left
+  done-case e =
+      either Left _ _ _ (λ q. D .on-release (of release q))
+      (λ _. either Left _ _ _ (λ q. lock-case (of lock q))
+      (λ _. either Left _ _ _ (λ q. unlock-case (of unlock q))
+      (λ _. either Left _ _ _ (λ q. D .on-end (of end q)) (λ _. either Left _ _ _ (λ q. D .on-tick (eqb-true kind tick q)) (λ _. D .kept)))))
     where
       of : (m : ℕ) → eqb kind m ≡ true → refusal p s m k r ≡ 0
       of m q = rw (eqb-true kind m q) at e
 
-      go : (a b c d t : Bool) → eqb kind release ≡ a → eqb kind lock ≡ b → eqb kind unlock ≡ c → eqb kind end ≡ d → eqb kind tick ≡ t
-          → Left
-          (elim a [
-            | true ↦ answered p (released s k) 0
-            | false ↦ elim b [
-              | true ↦ locked p s k r
-              | false ↦ elim c [
-                | true ↦ answered p (unlocked p s k r) 0
-                | false ↦ elim d [
-                  | true ↦ answered p (endedTask s k) 0
-                  | false ↦ elim t [ true ↦ ticked p s | false ↦ answered p s 11 ]
-                ]
-              ]
-            ]
-          ])
-      go true b c d t qa qb qc qd qt = answered-case _ 0 (D .on-release (of release qa))
-      go false true c d t qa qb qc qd qt = lock-case (of lock qb)
-      go false false true d t qa qb qc qd qt = answered-case _ 0 (unlock-case (of unlock qc))
-      go false false false true t qa qb qc qd qt = answered-case _ 0 (D .on-end (of end qd))
-      go false false false false true qa qb qc qd qt = D .on-tick (eqb-true kind tick qt)
-      go false false false false false qa qb qc qd qt = answered-case s 11 (D .kept)
-
   -- refused or done
   pub stepped-cases : C (stepped p s kind k r .state)
-  unfolding stepped Left
-  stepped-cases = go (eqb (refusal p s kind k r) 0) refl
-    where
-      go : (b : Bool) → eqb (refusal p s kind k r) 0 ≡ b → Left (elim b [ true ↦ done p s kind k r | false ↦ answered p s (refusal p s kind k r) ])
-      go true e = done-case (eqb-true _ 0 e)
-      go false e = answered-case s _ (D .kept)
+  unfolding stepped answered Left
+  stepped-cases = either Left _ _ _ (λ q. done-case (eqb-true _ 0 q)) (λ _. D .kept)
 
 -- a tick is never refused
 pub stepped-tick : (p : Plan) (s : State) (k r : ℕ) → stepped p s tick k r ≡ ticked p s

@@ -1,6 +1,6 @@
 -- "Events", step (c): the chosen subsystem is charged and its task runs. Inside a section budget left and section left fall together.
 use mathlib.Core.Path.{_≡_, refl, ap, _∙_}
-use mathlib.Core.Logic.{_≢_, _⊎_, inl, inr}
+use mathlib.Core.Logic.{_⊎_, inl, inr}
 use mathlib.Core.Bool.{true, false}
 use Prim.Native.Nat.{ℕ, _+_, _-_, _≤_, _<_}
 use native.Mathlib.Omega.{arith}
@@ -16,20 +16,21 @@ use Rattle.state.specs.declared.State.{State}
 use Rattle.state.specs.State.{mostHeld, taskAt, leftOf, refillOf, usedOf, isWaiting, lastHeld, inSection}
 use Rattle.state.specs.Update.{withTask, withUsed, started}
 use Rattle.state.specs.Sized.{Sized}
-use Rattle.state.proofs.Update.{held-sized, taskAt-withTask, taskAt-withTask-other, leftOf-withTask, refillOf-withTask, usedOf-withTask, sized-withTask, leftOf-withLeft, leftOf-withLeft-other, taskAt-withLeft, refillOf-withLeft, usedOf-withLeft, sized-withLeft, usedOf-withUsed, usedOf-withUsed-other, sized-withUsed}
+use Rattle.state.proofs.Update.{held-sized, taskAt-withTask, taskAt-withTask-other, leftOf-withTask, refillOf-withTask, usedOf-withTask, sized-withTask, usedOf-withUsed, usedOf-withUsed-other, sized-withUsed}
 use Rattle.state.proofs.TaskUpdate.{started-section, started-last, started-sized}
-use Rattle.state.proofs.TaskKept.{started-legal}
-use Rattle.state.proofs.Facts.{NoSection}
-use Rattle.state.proofs.Parts.{Tasks, legal-tasks, legal-counts}
-use Rattle.state.proofs.Counts.{SameCounts, SameSection, counts-out}
-use Rattle.state.proofs.Replaced.{Fits}
-use Rattle.state.proofs.Changed.{Changed, all-outside, inside-legal, outside-legal, counts-legal}
+use Rattle.legal.proofs.TaskKept.{started-legal}
+use Rattle.legal.proofs.Facts.{NoSection}
+use Rattle.legal.proofs.Parts.{Tasks, legal-tasks, legal-counts}
+use Rattle.legal.proofs.Counts.{SameSection, counts-out}
+use Rattle.legal.proofs.Replaced.{Fits}
+use Rattle.legal.proofs.Changed.{Changed, all-outside, inside-legal, outside-legal, counts-legal}
 use Rattle.choice.specs.Choice.{runs}
 use Rattle.choice.proofs.Taken.{Takes}
 use Rattle.choice.proofs.Running.{runs-waiting, runs-going, runs-nobody}
-use Rattle.step.specs.Tick.{charged, ran}
+use Rattle.step.specs.Tick.{ran}
 use Rattle.step.proofs.Fitting.{same-crosses, takes-fits, takes-others}
 use Rattle.step.proofs.Kept.{Kept}
+use Rattle.step.proofs.Pays.{Paid}
 
 -- what running a task does, by cases
 
@@ -46,53 +47,26 @@ module _ (p : Plan) (s : State) (k : ℕ) where
   unfolding ran
   ran-nobody h = rw (le-ltb k _ h, ran)
 
--- what a charge does
-
-module _ (s : State) (c : ℕ) where
-  pub charged-sized : Sized s → Sized (charged s c)
-  unfolding charged
-  charged-sized Z = sized-withLeft s c _ Z
-
-  pub charged-tasks : (k : ℕ) → taskAt (charged s c) k ≡ taskAt s k
-  unfolding charged
-  charged-tasks k = taskAt-withLeft s c _ k
-
-  pub charged-left : Sized s → c < mostSubsystems → leftOf (charged s c) c .0 ≡ leftOf s c .0 - 1
-  unfolding charged
-  charged-left Z h = ap (λ q. q .0) (leftOf-withLeft s c _ Z h)
-
-  pub charged-refill : (d : ℕ) → refillOf (charged s c) d ≡ refillOf s d
-  unfolding charged
-  charged-refill d = refillOf-withLeft s c _ d
-
-  pub charged-used : (d : ℕ) → usedOf (charged s c) d ≡ usedOf s d
-  unfolding charged
-  charged-used d = usedOf-withLeft s c _ d
-
-  pub charged-elsewhere : (d : ℕ) → d ≢ c → SameCounts s (charged s c) d
-  unfolding charged
-  charged-elsewhere d n = record { left = ap (λ q. q .0) (leftOf-withLeft-other s c _ d n); refill = charged-refill d; used = charged-used d }
-
 module _ (p : Plan) (s : State) (A : Accepted p) (S : Kept p s) where
   -- the tasks, as legal
   T : Tasks p (taskAt s)
   T = legal-tasks p s (S .legal)
 
   -- nobody runs, and there is no section
-  pub charged-kept : (c : ℕ) → c < p .subsystems → NoSection p s c → Kept p (charged s c)
-  charged-kept c h n =
+  pub paid-kept : (c : ℕ) → c < p .subsystems → (v : State) → Paid s c v → NoSection p s c → Kept p v
+  paid-kept c h v Q n =
       record {
-        sized = charged-sized s c (S .sized);
+        sized = Q .sized;
         legal =
-            counts-legal p s (charged s c) A (S .legal) c h (charged-tasks s c) (charged-elsewhere s c)
-            (counts-out p (charged s c) c (omega (arith, charged-left s c (S .sized) (omega (arith, A .subsystems-most)), S .legal .left-most c h))
-            (omega (arith, charged-refill s c c, S .legal .refill-ahead c h))
-            (omega (arith, charged-refill s c c, S .legal .refill-most c h))
-            (λ k l o. rw (charged-tasks s c k) (n k l o))
-            (charged-used s c c ∙ S .legal .unused c h n));
+            counts-legal p s v A (S .legal) c h (Q .tasks) (Q .elsewhere)
+            (counts-out p v c (omega (arith, Q .left, S .legal .left-most c h))
+            (omega (arith, Q .refill c, S .legal .refill-ahead c h))
+            (omega (arith, Q .refill c, S .legal .refill-most c h))
+            (λ k l o. rw (Q .tasks k) (n k l o))
+            (Q .used c ∙ S .legal .unused c h n));
       }
 
-  module _ (k : ℕ) (K : Takes p (taskAt s) (owner p k) k) where
+  module _ (k : ℕ) (K : Takes p (taskAt s) (owner p k) k) (v : State) (Q : Paid s (owner p k) v) where
     -- its subsystem
     c : ℕ
     c = owner p k
@@ -127,40 +101,36 @@ module _ (p : Plan) (s : State) (A : Accepted p) (S : Kept p s) where
 
     -- charged and started
     u : State
-    u = withTask (charged s c) k t
+    u = withTask v k t
 
     -- what is read there
     u-sized : Sized u
     unfolding u
-    u-sized = sized-withTask (charged s c) k t (charged-sized s c (S .sized))
+    u-sized = sized-withTask v k t (Q .sized)
 
     u-task : taskAt u k ≡ t
     unfolding u
-    u-task = taskAt-withTask (charged s c) k t (charged-sized s c (S .sized)) k-most size
+    u-task = taskAt-withTask v k t (Q .sized) k-most size
 
     u-left : leftOf u c .0 ≡ leftOf s c .0 - 1
-    unfolding u
-    u-left = ap (λ q. q .0) (leftOf-withTask (charged s c) k t c) ∙ charged-left s c (S .sized) c-most
+    unfolding u c
+    u-left = ap (λ q. q .0) (leftOf-withTask v k t c) ∙ Q .left
 
     u-refill : (d : ℕ) → refillOf u d ≡ refillOf s d
     unfolding u
-    u-refill d = refillOf-withTask (charged s c) k t d ∙ charged-refill s c d
+    u-refill d = refillOf-withTask v k t d ∙ Q .refill d
 
     u-used : (d : ℕ) → usedOf u d ≡ usedOf s d
     unfolding u
-    u-used d = usedOf-withTask (charged s c) k t d ∙ charged-used s c d
+    u-used d = usedOf-withTask v k t d ∙ Q .used d
 
     u-changed : Changed s u k c
-    unfolding u
+    unfolding u c
     u-changed =
         record {
-          others = λ j n. taskAt-withTask-other (charged s c) k t j n ∙ charged-tasks s c j;
+          others = λ j n. taskAt-withTask-other v k t j n ∙ Q .tasks j;
           elsewhere = λ d n.
-              record {
-                left = ap (λ q. q .0) (leftOf-withTask (charged s c) k t d) ∙ charged-elsewhere s c d n .left;
-                refill = u-refill d;
-                used = u-used d;
-              };
+              record { left = ap (λ q. q .0) (leftOf-withTask v k t d) ∙ Q .elsewhere d n .left; refill = u-refill d; used = u-used d };
         }
 
     -- the running task is outside sections
@@ -203,40 +173,31 @@ module _ (p : Plan) (s : State) (A : Accepted p) (S : Kept p s) where
             }
 
     -- inside or outside
-    pub run-kept : (inSection p (taskAt s k) ≡ true → usedOf s (owner p k) < lengthOf p k (lastHeld (taskAt s k))) → Kept p (ran p (charged s (owner p k)) k)
+    pub run-kept : (inSection p (taskAt s k) ≡ true → usedOf s (owner p k) < lengthOf p k (lastHeld (taskAt s k))) → Kept p (ran p v k)
     unfolding u t c
     run-kept more = go (decided (inSection p (taskAt s k)))
       where
-        go : (inSection p (taskAt s k) ≡ true) ⊎ (inSection p (taskAt s k) ≡ false) → Kept p (ran p (charged s (owner p k)) k)
-        go (inl i) =
-            rw (
-              ran-inside p (charged s (owner p k)) k (K .there) (ap (inSection p) (charged-tasks s (owner p k) k) ∙ i),
-              charged-tasks s (owner p k) k,
-              charged-used s (owner p k) (owner p k),
-            )
-            (inside-kept i (more i))
-        go (inr o) =
-            rw
-            (ran-outside p (charged s (owner p k)) k (K .there) (ap (inSection p) (charged-tasks s (owner p k) k) ∙ o), charged-tasks s (owner p k) k)
-            (outside-kept o)
+        go : (inSection p (taskAt s k) ≡ true) ⊎ (inSection p (taskAt s k) ≡ false) → Kept p (ran p v k)
+        go (inl i) = rw (ran-inside p v k (K .there) (ap (inSection p) (Q .tasks k) ∙ i), Q .tasks k, Q .used (owner p k)) (inside-kept i (more i))
+        go (inr o) = rw (ran-outside p v k (K .there) (ap (inSection p) (Q .tasks k) ∙ o), Q .tasks k) (outside-kept o)
 
 -- (c) whole: k is the task taken in c, or no row where c has no section
-module _ (p : Plan) (s : State) (A : Accepted p) (S : Kept p s) (c : ℕ) (h : c < p .subsystems) where
+module _ (p : Plan) (s : State) (A : Accepted p) (S : Kept p s) (c : ℕ) (h : c < p .subsystems) (v : State) (Q : Paid s c v) where
   -- nobody runs
-  idle-run-kept : (k : ℕ) → runs s k ≡ noRow → NoSection p s c → Kept p (ran p (charged s c) (runs s k))
-  idle-run-kept k e n = rw (e, ran-nobody p (charged s c) noRow (omega (arith, A .tasks-most))) (charged-kept p s A S c h n)
+  idle-run-kept : (k : ℕ) → runs s k ≡ noRow → NoSection p s c → Kept p (ran p v (runs s k))
+  idle-run-kept k e n = rw (e, ran-nobody p v noRow (omega (arith, A .tasks-most))) (paid-kept p s A S c h v Q n)
 
   -- no task is taken
-  pub nobody-run-kept : (k : ℕ) → k ≡ noRow → NoSection p s c → Kept p (ran p (charged s c) (runs s k))
+  pub nobody-run-kept : (k : ℕ) → k ≡ noRow → NoSection p s c → Kept p (ran p v (runs s k))
   nobody-run-kept k e n = idle-run-kept k (rw e (runs-nobody s)) n
 
   -- one is
   pub task-run-kept : (k : ℕ) → Takes p (taskAt s) c k → (inSection p (taskAt s k) ≡ true → usedOf s c < lengthOf p k (lastHeld (taskAt s k)))
-      → Kept p (ran p (charged s c) (runs s k))
+      → Kept p (ran p v (runs s k))
   task-run-kept k K more = go (decided (isWaiting (taskAt s k)))
     where
-      go : (isWaiting (taskAt s k) ≡ true) ⊎ (isWaiting (taskAt s k) ≡ false) → Kept p (ran p (charged s c) (runs s k))
+      go : (isWaiting (taskAt s k) ≡ true) ⊎ (isWaiting (taskAt s k) ≡ false) → Kept p (ran p v (runs s k))
       go (inl w) =
           idle-run-kept k (runs-waiting s k w)
           (all-outside p s k c (takes-others p s (legal-tasks p s (S .legal)) k c K) (S .legal .task k (K .there) .waiting w .outside))
-      go (inr w) = rw (runs-going s k w, ← (K .owned)) (run-kept p s A S k (rw (K .owned) K) (rw (K .owned) more))
+      go (inr w) = rw (runs-going s k w) (run-kept p s A S k (rw (K .owned) K) v (rw (K .owned) Q) (rw (K .owned) more))

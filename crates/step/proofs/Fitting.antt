@@ -11,13 +11,13 @@ use Rattle.state.specs.declared.Task.{Task}
 use Rattle.state.specs.declared.State.{State}
 use Rattle.state.specs.State.{idleTask, taskAt, isActive, heldAt, lastHeld, inSection}
 use Rattle.state.specs.Update.{readied, givingBack}
-use Rattle.state.specs.Facts.{TaskLegal}
 use Rattle.state.proofs.TaskUpdate.{readied-active, readied-waiting, readied-section, readied-last, readied-held, readied-count, givingBack-active, givingBack-waiting, givingBack-count, givingBack-held, idle-active, idle-waiting, idle-count, idle-section}
-use Rattle.state.proofs.Tasks.{section-engaged}
-use Rattle.state.proofs.Parts.{Engaged, Ahead, Under, Tasks}
-use Rattle.state.proofs.Counts.{SameSection}
-use Rattle.state.proofs.Replaced.{Fits}
-use Rattle.state.proofs.Changed.{OthersOutside}
+use Rattle.legal.specs.Facts.{TaskLegal}
+use Rattle.legal.proofs.Tasks.{section-engaged}
+use Rattle.legal.proofs.Parts.{Engaged, Ahead, Under, Tasks}
+use Rattle.legal.proofs.Counts.{SameSection}
+use Rattle.legal.proofs.Replaced.{Fits}
+use Rattle.legal.proofs.Changed.{OthersOutside}
 use Rattle.choice.proofs.Taken.{Takes, takes-engaged}
 
 -- how a new section of k stands to those of other subsystems

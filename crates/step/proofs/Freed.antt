@@ -12,14 +12,14 @@ use Rattle.state.specs.declared.Task.{Task}
 use Rattle.state.specs.declared.State.{State}
 use Rattle.state.specs.State.{mostHeld, idleTask, taskAt, isIdle, isWaiting, lastHeld, inSection}
 use Rattle.state.specs.Update.{withTask, withUsed, readied, givingBack}
-use Rattle.state.specs.Facts.{TaskLegal}
 use Rattle.state.proofs.Update.{held-sized}
 use Rattle.state.proofs.TaskUpdate.{readied-section, readied-last, readied-sized, givingBack-sized, idle-section, idle-sized}
-use Rattle.state.proofs.TaskKept.{readied-legal, givingBack-legal, givingBack-section}
-use Rattle.state.proofs.Tasks.{holder-section, section-count}
-use Rattle.state.proofs.Parts.{legal-tasks}
-use Rattle.state.proofs.Fresh.{idle-legal}
-use Rattle.state.proofs.Replaced.{Fits}
+use Rattle.legal.specs.Facts.{TaskLegal}
+use Rattle.legal.proofs.TaskKept.{readied-legal, givingBack-legal, givingBack-section}
+use Rattle.legal.proofs.Tasks.{holder-section, section-count}
+use Rattle.legal.proofs.Parts.{legal-tasks}
+use Rattle.legal.proofs.Fresh.{idle-legal}
+use Rattle.legal.proofs.Replaced.{Fits}
 use Rattle.step.specs.Events.{released, endedTask}
 use Rattle.step.proofs.Fitting.{Less, less-fits, readied-less, idle-less, givingBack-less}
 use Rattle.step.proofs.Kept.{Kept, task-kept, closed-kept}

@@ -15,10 +15,10 @@ use Rattle.state.specs.State.{mostHeld, idleTask, taskAt, leftOf, inSection}
 use Rattle.state.specs.Update.{withTask, withUsed, readied, givingBack}
 use Rattle.state.proofs.Update.{held-sized}
 use Rattle.state.proofs.TaskUpdate.{readied-section, readied-last, readied-sized, idle-section, idle-sized, taking-sized, waitingFor-sized, givingBack-sized}
-use Rattle.state.proofs.TaskKept.{givingBack-section}
-use Rattle.state.proofs.Tasks.{section-engaged, holder-section}
-use Rattle.state.proofs.Parts.{legal-tasks}
-use Rattle.state.proofs.Changed.{engaged-others}
+use Rattle.legal.proofs.TaskKept.{givingBack-section}
+use Rattle.legal.proofs.Tasks.{section-engaged, holder-section}
+use Rattle.legal.proofs.Parts.{legal-tasks}
+use Rattle.legal.proofs.Changed.{engaged-others}
 use Rattle.choice.specs.Choice.{chosen, chosenTask}
 use Rattle.choice.proofs.Taken.{Takes}
 use Rattle.choice.proofs.Running.{running-takes, running-going}

@@ -17,9 +17,9 @@ use Rattle.state.specs.declared.Task.{Task}
 use Rattle.state.specs.declared.State.{State}
 use Rattle.state.specs.State.{taskAt, isActive, holds, lastHeld, inSection}
 use Rattle.state.specs.Sized.{Sized}
-use Rattle.state.specs.Facts.{Legal}
-use Rattle.state.proofs.Tasks.{section-engaged, HeldPlace, holds-place, holder-active, global-section, engaged-one}
-use Rattle.state.proofs.Parts.{Ahead, Under, legal-tasks}
+use Rattle.legal.specs.Facts.{Legal}
+use Rattle.legal.proofs.Tasks.{section-engaged, HeldPlace, holds-place, holder-active, global-section, engaged-one}
+use Rattle.legal.proofs.Parts.{Ahead, Under, legal-tasks}
 use Rattle.choice.specs.Choice.{chosen, runs}
 use Rattle.choice.proofs.Taken.{Takes}
 use Rattle.choice.proofs.Running.{running-takes}

@@ -14,13 +14,13 @@ use Rattle.state.specs.declared.State.{State}
 use Rattle.state.specs.State.{mostHeld, taskAt, leftOf, refillOf, usedOf, lastHeld, inSection}
 use Rattle.state.specs.Update.{withTask, withUsed}
 use Rattle.state.specs.Sized.{Sized}
-use Rattle.state.specs.Facts.{Legal}
 use Rattle.state.proofs.Update.{taskAt-withTask, taskAt-withTask-other, leftOf-withTask, refillOf-withTask, usedOf-withTask, sized-withTask, usedOf-withUsed, usedOf-withUsed-other, sized-withUsed}
-use Rattle.state.proofs.Tasks.{section-engaged}
-use Rattle.state.proofs.Parts.{legal-tasks}
-use Rattle.state.proofs.Counts.{SameCounts, SameSection}
-use Rattle.state.proofs.Replaced.{Fits}
-use Rattle.state.proofs.Changed.{Changed, OthersOutside, engaged-others, all-outside, same-legal, inside-legal, outside-legal}
+use Rattle.legal.specs.Facts.{Legal}
+use Rattle.legal.proofs.Tasks.{section-engaged}
+use Rattle.legal.proofs.Parts.{legal-tasks}
+use Rattle.legal.proofs.Counts.{SameCounts, SameSection}
+use Rattle.legal.proofs.Replaced.{Fits}
+use Rattle.legal.proofs.Changed.{Changed, OthersOutside, engaged-others, all-outside, same-legal, inside-legal, outside-legal}
 
 -- a legal state with lists of the right lengths
 pub record Kept (p : Plan) (s : State) : Type 0 where

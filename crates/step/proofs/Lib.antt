@@ -2,6 +2,7 @@ pub mod Fitting
 pub mod Kept
 pub mod Taking
 pub mod Freed
+pub mod Pays
 pub mod Charged
 pub mod Refilled
 pub mod Refusals
@@ -11,6 +12,7 @@ pub mod Spent
 pub mod Waited
 pub mod Ticked
 pub mod Cases
+pub mod Afterwards
 pub mod Stepped
 pub mod Strict
 pub mod Still

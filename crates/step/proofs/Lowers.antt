@@ -19,7 +19,7 @@ use Rattle.state.specs.State.{mostHeld, taskAt, usedOf, lastHeld, inSection, se
 use Rattle.state.specs.Update.{withTask, withUsed}
 use Rattle.state.specs.Sized.{Sized}
 use Rattle.state.proofs.Update.{taskAt-withTask, taskAt-withTask-other, usedOf-withTask, taskAt-withUsed, usedOf-withUsed-other}
-use Rattle.state.proofs.Changed.{OthersOutside}
+use Rattle.legal.proofs.Changed.{OthersOutside}
 use Rattle.step.specs.Strict.{holdsBack, strictOf}
 use Rattle.step.proofs.Strict.{HoldsBack, holdsBack-facts, facts-holdsBack}
 

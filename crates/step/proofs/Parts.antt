@@ -9,13 +9,12 @@ use Rattle.plan.specs.Plan.{owner}
 use Rattle.state.specs.declared.SectionLeft.{SectionLeft}
 use Rattle.state.specs.declared.Task.{Task}
 use Rattle.state.specs.declared.State.{State}
-use Rattle.state.specs.State.{taskAt, usedOf, isWaiting, inSection, sectionLeft}
+use Rattle.state.specs.State.{idleTask, taskAt, usedOf, isWaiting, inSection, sectionLeft}
 use Rattle.state.specs.Update.{withTask, withUsed, started}
 use Rattle.state.proofs.TaskUpdate.{started-section}
 use Rattle.step.specs.Lent.{spentAt}
 use Rattle.step.specs.Events.{lengthFitsBudget, withTaken, endedTask}
-use Rattle.step.specs.declared.Shut.{Shut}
-use Rattle.step.specs.Tick.{shutOne, givenWaited, ran}
+use Rattle.step.specs.Tick.{Shut, shutOne, givenWaited, ran}
 use Rattle.step.proofs.Charged.{ran-inside, ran-outside}
 
 module _ (p : Plan) (s : State) (k : ℕ) where
@@ -64,8 +63,14 @@ module _ (p : Plan) (s : State) (k : ℕ) where
         let d : withTask s k v ≡ withTask s k (started (taskAt s k)) = ap (withTask s k) now-started in
         cc (ran-inside p s k h (section-before ∙ i))
 
+-- (a) the task that holds the section, and its subsystem
+pub made-shut : (p : Plan) (s u v : State) (k c : ℕ) (t : Task) → u ≡ withTask s k t → t ≡ idleTask → v ≡ withUsed u c 0 → c ≡ owner p k
+    → v ≡ withUsed (endedTask s k) (owner p k) 0
+unfolding endedTask
+made-shut p s u v k c t e f g o = cc
+
 -- (a) one turn
-pub shut-is : (p : Plan) (x : Shut) (k : ℕ) (freed u : State) (c n e : ℕ) → u ≡ endedTask (x .state) k → c ≡ owner p k → n ≡ 0 → freed ≡ withUsed u c n
-    → e ≡ x .ended + 2 ^ k → record { state = freed; ended = e } ≡ shutOne p x k
+pub shut-is : (p : Plan) (x : Shut) (k : ℕ) (freed : State) (e : ℕ) → freed ≡ withUsed (endedTask (x .state) k) (owner p k) 0 → e ≡ x .ended + 2 ^ k
+    → record { state = freed; ended = e } ≡ shutOne p x k
 unfolding shutOne
-shut-is p x k freed u c n e a o z f g = rw (f, a, o, z, g)
+shut-is p x k freed e f g = rw (f, g)

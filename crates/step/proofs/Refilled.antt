@@ -1,8 +1,10 @@
 -- "Events", step (d): every subsystem's ticks to refill fall by one, and at 0 budget and period are set full again. A legal state stays legal.
-use mathlib.Core.Path.{_≡_, refl, _∙_}
+use mathlib.Core.Path.{_≡_, refl, ap, _∙_}
 use mathlib.Core.Logic.{_⊎_, inl, inr}
+use mathlib.Core.Bool.{true, false}
 use Prim.Native.Nat.{ℕ, _-_, _≤_, _<_}
 use native.Mathlib.Omega.{arith}
+use lib.Dec.{leb}
 use borrow.Author.Tests.{le-leb, lt-leb}
 use Rattle.below.proofs.Listed.{length-listed, getD-listed}
 use Rattle.plan.specs.declared.Plan.{Plan}
@@ -10,13 +12,22 @@ use Rattle.plan.specs.Limits.{mostSubsystems}
 use Rattle.plan.specs.Plan.{period, budget}
 use Rattle.plan.specs.Facts.{Accepted}
 use Rattle.plan.proofs.Facts.{row-there}
+use Rattle.state.specs.declared.BudgetLeft.{BudgetLeft}
 use Rattle.state.specs.declared.State.{State}
 use Rattle.state.specs.State.{taskAt, leftOf, refillOf, usedOf}
 use Rattle.state.specs.Sized.{Sized}
-use Rattle.state.proofs.Parts.{CountsAt, NoCounts, legal-tasks, legal-counts, legal-absent, legal-of}
-use Rattle.state.proofs.Changed.{tasks-same}
+use Rattle.legal.proofs.Parts.{CountsAt, NoCounts, legal-tasks, legal-counts, legal-absent, legal-of}
+use Rattle.legal.proofs.Changed.{tasks-same}
 use Rattle.step.specs.Tick.{refilled}
 use Rattle.step.proofs.Kept.{Kept}
+
+-- which way a test goes, whatever it tests against
+module _ {A : Type 0} (n m : ℕ) (x y : A) where
+  at-most : n ≤ m → elim (leb n m) [ true ↦ x | false ↦ y ] ≡ x
+  at-most h = rw (le-leb n m h)
+
+  above : m < n → elim (leb n m) [ true ↦ x | false ↦ y ] ≡ y
+  above h = rw (lt-leb n m h)
 
 module _ (p : Plan) (s : State) where
   -- no task changes
@@ -40,21 +51,21 @@ module _ (p : Plan) (s : State) where
 
     pub refilled-left-now : refillOf s c ≤ 1 → leftOf (refilled p s) c .0 ≡ budget p c
     unfolding refilled leftOf
-    refilled-left-now h = rw (getD-listed mostSubsystems _ c _ l, le-leb (refillOf s c) 1 h)
+    refilled-left-now h = ap (λ (q : BudgetLeft). q .0) (getD-listed mostSubsystems _ c _ l ∙ at-most (refillOf s c) _ _ _ (omega arith))
 
     pub refilled-refill-now : refillOf s c ≤ 1 → refillOf (refilled p s) c ≡ period p c
     unfolding refilled refillOf
-    refilled-refill-now h = rw (getD-listed mostSubsystems _ c _ l, le-leb (refillOf s c) 1 h)
+    refilled-refill-now h = getD-listed mostSubsystems _ c _ l ∙ at-most (refillOf s c) _ _ _ (omega arith)
 
     -- any other tick
 
     pub refilled-left-later : 1 < refillOf s c → leftOf (refilled p s) c .0 ≡ leftOf s c .0
     unfolding refilled leftOf
-    refilled-left-later h = rw (getD-listed mostSubsystems _ c _ l, lt-leb (refillOf s c) 1 h)
+    refilled-left-later h = ap (λ (q : BudgetLeft). q .0) (getD-listed mostSubsystems _ c _ l ∙ above (refillOf s c) _ _ _ (omega arith))
 
     pub refilled-refill-later : 1 < refillOf s c → refillOf (refilled p s) c ≡ refillOf s c - 1
     unfolding refilled refillOf
-    refilled-refill-later h = rw (getD-listed mostSubsystems _ c _ l, lt-leb (refillOf s c) 1 h)
+    refilled-refill-later h = getD-listed mostSubsystems _ c _ l ∙ above (refillOf s c) _ _ _ (omega arith)
 
 module _ (p : Plan) (s : State) (A : Accepted p) (S : Kept p s) where
   -- the counts of a subsystem

@@ -15,19 +15,20 @@ use Rattle.plan.specs.declared.Plan.{Plan}
 use Rattle.plan.specs.Limits.{mostTasks}
 use Rattle.plan.specs.Plan.{owner}
 use Rattle.plan.specs.Facts.{Accepted}
+use Rattle.state.specs.declared.Clocks.{Clocks}
 use Rattle.state.specs.declared.State.{State}
 use Rattle.state.specs.State.{idleTask, taskAt, isIdle, inSection}
+use Rattle.state.specs.Sized.{Sized}
 use Rattle.state.specs.Update.{withTask, withUsed}
 use Rattle.state.proofs.Update.{taskAt-withTask, taskAt-withTask-other, taskAt-withUsed}
 use Rattle.state.proofs.TaskUpdate.{idle-sized}
-use Rattle.state.proofs.Tasks.{section-count}
+use Rattle.legal.proofs.Tasks.{section-count}
 use Rattle.choice.specs.declared.Choice.{Choice}
 use Rattle.choice.specs.Choice.{chosenTask}
 use Rattle.step.specs.declared.Rows.{Rows}
-use Rattle.step.specs.declared.Shut.{Shut}
 use Rattle.step.specs.Lent.{Lent, Chooses, Settles, spentAt}
 use Rattle.step.specs.Events.{endedTask}
-use Rattle.step.specs.Tick.{isSpent, shutOne, shutTurns, shutSpent}
+use Rattle.step.specs.Tick.{Shut, isSpent, shutOne, shutTurns, shutSpent}
 use Rattle.step.proofs.Kept.{Kept}
 use Rattle.step.proofs.Freed.{shut-kept}
 use Rattle.step.proofs.Spent.{section-takes}
@@ -171,10 +172,10 @@ module _ (p : Plan) (A : Accepted p) (start x : Shut) (c : Choice) (turn : ℕ) 
   none-spent e = sym (S .turns ∙ turns-unspent p x (p .subsystems - turn) (sym test-is ∙ e))
 
 -- the choice is that of the state after (a)
-pub settled : (p : Plan) (s : State) (x : Shut) (c : Choice) → x ≡ shutTurns (p .subsystems) p (record { state = s; ended = 0 }) → Chooses p (x .state) c
-    → Settles p s (record { state = x .state; ended = x .ended; subsystem = c .subsystem; task = c .task })
+pub settled : (p : Plan) (s : State) (x : Shut) (q : Clocks) (c : Choice) → x ≡ shutTurns (p .subsystems) p (record { state = s; ended = 0 }) → Chooses p (x .state) c
+    → Settles p s (x .state) (record { clocks = q; ended = x .ended; subsystem = c .subsystem; task = c .task })
 unfolding shutSpent
-settled p s x c e C =
+settled p s x q c e C =
     record { state = ap (λ (y : Shut). y .state) e; ended = ap (λ (y : Shut). y .ended) e; subsystem = C .subsystem; task = C .task }
 
 -- what is lent is legal
@@ -195,10 +196,10 @@ lent-after p s u rows lengths L S =
 pub again : (p : Plan) (s : State) (rows : Rows) (lengths : List ℕ) (L : Lent p s rows lengths) (start x : Shut) (c : Choice) (turn : ℕ) → Settling p start x c turn
     → turn < p .subsystems → spentAt p (x .state) (c .task) ≡ true
     → (y : Shut) (d : Choice)
-    → (c .task < 32 → x .ended + 2 ^ c .task < 4294967296 → y ≡ shutOne p x (c .task))
+    → (Sized (x .state) → c .task < 32 → x .ended + 2 ^ c .task < 4294967296 → y ≡ shutOne p x (c .task))
     → (Lent p (y .state) rows (p .lengths) → Chooses p (y .state) d)
     → Settling p start y d (turn + 1)
 again p s rows lengths L start x c turn S l e y d shut choose =
     let A = L .accepted in
-    let q = shut (task-most p A start x c turn S e) (ended-fits p A start x c turn S e) in
+    let q = shut (S .kept .sized) (task-most p A start x c turn S e) (ended-fits p A start x c turn S e) in
     turned p A start x c turn S e y d l q (choose (lent-after p s (y .state) rows lengths L (turned-kept p A start x c turn S e y q)))

@@ -13,17 +13,16 @@ use Rattle.plan.specs.Facts.{Accepted}
 use Rattle.plan.proofs.Facts.{row-there}
 use Rattle.state.specs.declared.State.{State}
 use Rattle.state.specs.State.{leftOf, refillOf}
-use Rattle.choice.specs.Choice.{chosen, taken, runs}
+use Rattle.choice.specs.Choice.{chosen}
 use Rattle.choice.proofs.ChosenFacts.{chosen-there, budget-chosen}
-use Rattle.step.specs.declared.Shut.{Shut}
 use Rattle.step.specs.declared.Outcome.{Outcome}
-use Rattle.step.specs.Tick.{shutSpent, givenWaited, charged, ran, refilled, tickIn, tickIdle, tickAfter, ticked}
+use Rattle.step.specs.Tick.{Shut, shutSpent, ran, refilled, tickIn, tickIdle, tickAfter, ticked}
 use Rattle.step.proofs.Kept.{Kept}
-use Rattle.step.proofs.Charged.{charged-left, charged-refill, charged-elsewhere}
+use Rattle.step.proofs.Pays.{Pays, givenIn, runsIn}
 use Rattle.step.proofs.Refilled.{refilled-left-now, refilled-refill-now, refilled-left-later, refilled-refill-later}
 use Rattle.step.proofs.Spent.{Unspent, shut-unspent}
 use Rattle.step.proofs.Still.{Still, still-then, shut-still, given-still, ran-still}
-use Rattle.step.proofs.Ticked.{chosen-has-budget, given-kept}
+use Rattle.step.proofs.Ticked.{chosen-has-budget, chosen-pays}
 
 -- from s on: a state before (d) in which the row named has one tick less, and every other as much as before
 pub record Spends (p : Plan) (s : State) (o : Outcome) : Type 0 where
@@ -57,35 +56,31 @@ module _ (p : Plan) (s : State) (A : Accepted p) (x : Shut) (U : Unspent p (x .s
   spends-in n =
       record {
         before = y;
-        after = refl;
-        refill = λ d. ran-still p _ _ .refill d ∙ charged-refill g c d ∙ G .refill d;
-        left = λ d m. ap (λ q. q .0) (ran-still p _ _ .left d) ∙ charged-elsewhere g c d m .left ∙ ap (λ q. q .0) (G .left d);
-        charged = λ h. one (omega (arith, A .subsystems-most));
+        after = L .after;
+        refill = λ d. ran-still p _ _ .refill d ∙ L .pays .refill d ∙ G .refill d;
+        left = λ d m. ap (λ q. q .0) (ran-still p _ _ .left d) ∙ L .pays .elsewhere d m .left ∙ ap (λ q. q .0) (G .left d);
+        charged = λ h. one;
         idle = λ h. absurd (omega (arith, chosen-there p (x .state) A (U .kept .legal) n));
       }
     where
       c : ℕ
       c = chosen p (x .state)
 
-      k : ℕ
-      k = taken p (x .state) c
-
-      g : State
-      g = givenWaited p (x .state) k
+      L : Pays p x c
+      L = chosen-pays p x A U n
 
       y : State
-      y = ran p (charged g c) (runs g k)
+      y = ran p (L .paid) (runsIn p x c)
 
-      G : Still s g
-      G = still-then s (x .state) g Q (given-still p (x .state) k)
+      G : Still s (givenIn p x c)
+      G = still-then s (x .state) (givenIn p x c) Q (given-still p (x .state) _)
 
-      one : c < mostSubsystems → leftOf y c .0 + 1 ≡ leftOf s c .0
-      one h =
-          let a = ap (λ q. q .0) (ran-still p (charged g c) (runs g k) .left c) in
-          let b = charged-left g c (given-kept p (x .state) A U .sized) h in
+      one : leftOf y c .0 + 1 ≡ leftOf s c .0
+      one =
+          let a = ap (λ q. q .0) (ran-still p (L .paid) (runsIn p x c) .left c) in
           let d = ap (λ q. q .0) (G .left c) in
           let e = ap (λ q. q .0) (Q .left c) in
-          omega (arith, chosen-has-budget p (x .state) A U n)
+          omega (arith, L .pays .left, chosen-has-budget p (x .state) A U n)
 
   -- either
   spends-after : Spends p s (tickAfter p x)

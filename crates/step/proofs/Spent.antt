@@ -20,14 +20,13 @@ use Rattle.state.specs.Update.{withTask, withUsed}
 use Rattle.state.specs.Sized.{Sized}
 use Rattle.state.proofs.Update.{taskAt-past, taskAt-withTask, taskAt-withTask-other, taskAt-withUsed}
 use Rattle.state.proofs.TaskUpdate.{idle-section, idle-sized}
-use Rattle.state.proofs.Tasks.{section-engaged}
-use Rattle.state.proofs.Parts.{legal-tasks}
-use Rattle.state.proofs.Changed.{engaged-others}
+use Rattle.legal.proofs.Tasks.{section-engaged}
+use Rattle.legal.proofs.Parts.{legal-tasks}
+use Rattle.legal.proofs.Changed.{engaged-others}
 use Rattle.choice.specs.Choice.{chosen, chosenTask}
 use Rattle.choice.proofs.Taken.{Takes, taken-takes}
-use Rattle.step.specs.declared.Shut.{Shut}
 use Rattle.step.specs.Events.{endedTask}
-use Rattle.step.specs.Tick.{isSpent, shutOne, shutTurns, shutSpent}
+use Rattle.step.specs.Tick.{Shut, isSpent, shutOne, shutTurns, shutSpent}
 use Rattle.step.proofs.Kept.{Kept}
 use Rattle.step.proofs.Freed.{shut-kept}
 

@@ -9,7 +9,7 @@ use Rattle.state.specs.declared.State.{State}
 use Rattle.state.specs.State.{taskAt, leftOf, inSection, sectionLeft}
 use Rattle.state.specs.Update.{withTask, withUsed, waitingFor, givingBack}
 use Rattle.state.specs.Sized.{Sized}
-use Rattle.state.specs.Facts.{Legal}
+use Rattle.legal.specs.Facts.{Legal}
 use Rattle.choice.proofs.Running.{running-takes, running-going}
 use Rattle.step.specs.Refusals.{release, lock, unlock, end, refusal}
 use Rattle.step.specs.Events.{released, lengthFitsBudget, withTaken, endedTask}

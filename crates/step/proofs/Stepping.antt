@@ -7,8 +7,8 @@ use Rattle.plan.specs.Accepted.{accepted}
 use Rattle.plan.proofs.Facts.{accepted-facts}
 use Rattle.state.specs.declared.State.{State}
 use Rattle.state.specs.Sized.{Sized}
-use Rattle.state.specs.Legal.{legal}
-use Rattle.state.proofs.Facts.{legal-facts}
+use Rattle.legal.specs.Legal.{legal}
+use Rattle.legal.proofs.Facts.{legal-facts}
 use Rattle.step.specs.declared.Rows.{Rows}
 use Rattle.step.specs.Step.{stepped, unread, step}
 use Rattle.step.specs.Lent.{rowsOf, Lent}

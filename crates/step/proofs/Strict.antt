@@ -17,9 +17,9 @@ use Rattle.plan.specs.Admission.{blocking}
 use Rattle.plan.proofs.BlockingLaws.{blocking-at}
 use Rattle.state.specs.declared.State.{State}
 use Rattle.state.specs.State.{taskAt, lastHeld, inSection, sectionLeft}
-use Rattle.state.specs.Facts.{Legal}
-use Rattle.state.proofs.Parts.{Tasks, legal-tasks}
-use Rattle.state.proofs.Tasks.{section-engaged, engaged-one, section-there, section-declares, section-global}
+use Rattle.legal.specs.Facts.{Legal}
+use Rattle.legal.proofs.Parts.{Tasks, legal-tasks}
+use Rattle.legal.proofs.Tasks.{section-engaged, engaged-one, section-there, section-declares, section-global}
 use Rattle.step.specs.Strict.{holdsBack, strictOf}
 
 -- what the test says

@@ -14,14 +14,14 @@ use Rattle.state.specs.declared.Task.{Task}
 use Rattle.state.specs.declared.State.{State}
 use Rattle.state.specs.State.{mostHeld, taskAt, leftOf, holds, inSection}
 use Rattle.state.specs.Update.{withTask, waitingFor, taking}
-use Rattle.state.specs.Facts.{TaskLegal}
 use Rattle.state.proofs.Update.{held-sized}
 use Rattle.state.proofs.TaskUpdate.{taking-last, taking-section, taking-sized, waitingFor-section, waitingFor-last, waitingFor-sized}
-use Rattle.state.proofs.TaskKept.{taking-legal, waitingFor-legal}
-use Rattle.state.proofs.Tasks.{section-engaged, holds-place, global-section}
-use Rattle.state.proofs.Parts.{Under, Tasks, legal-tasks}
-use Rattle.state.proofs.Counts.{SameSection}
-use Rattle.state.proofs.Replaced.{Fits}
+use Rattle.legal.specs.Facts.{TaskLegal}
+use Rattle.legal.proofs.TaskKept.{taking-legal, waitingFor-legal}
+use Rattle.legal.proofs.Tasks.{section-engaged, holds-place, global-section}
+use Rattle.legal.proofs.Parts.{Under, Tasks, legal-tasks}
+use Rattle.legal.proofs.Counts.{SameSection}
+use Rattle.legal.proofs.Replaced.{Fits}
 use Rattle.choice.specs.Choice.{chosen}
 use Rattle.choice.proofs.Taken.{Takes, takes-engaged}
 use Rattle.choice.proofs.ChosenFacts.{ByLevel, Chosen, by-level, by-holding, nobody, chosen-cases}

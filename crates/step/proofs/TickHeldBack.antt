@@ -20,25 +20,25 @@ use Rattle.state.specs.Update.{withTask, withUsed, started}
 use Rattle.state.specs.Sized.{Sized}
 use Rattle.state.proofs.Update.{held-sized, taskAt-withTask, taskAt-withTask-other, usedOf-withTask, sized-withTask, taskAt-withUsed, usedOf-withUsed, usedOf-withUsed-other}
 use Rattle.state.proofs.TaskUpdate.{started-section, started-last, started-sized, taking-sized}
-use Rattle.state.proofs.Tasks.{section-engaged}
-use Rattle.state.proofs.Parts.{legal-tasks}
-use Rattle.state.proofs.Changed.{OthersOutside, engaged-others}
+use Rattle.legal.proofs.Tasks.{section-engaged}
+use Rattle.legal.proofs.Parts.{legal-tasks}
+use Rattle.legal.proofs.Changed.{OthersOutside, engaged-others}
 use Rattle.choice.specs.Choice.{chosen, taken, runs, chosenTask}
 use Rattle.choice.proofs.Taken.{Takes, taken-cases}
 use Rattle.choice.proofs.Running.{runs-going}
 use Rattle.choice.proofs.ChosenFacts.{Chosen, by-level, by-holding, nobody, chosen-cases, ByHolding, holder-taken}
-use Rattle.step.specs.declared.Shut.{Shut}
 use Rattle.step.specs.declared.Outcome.{Outcome}
 use Rattle.step.specs.Events.{lengthFitsBudget, withTaken}
-use Rattle.step.specs.Tick.{shutSpent, givenWaited, charged, ran, refilled, tickIn, tickIdle, tickAfter, ticked}
+use Rattle.step.specs.Tick.{Shut, shutSpent, givenWaited, ran, refilled, tickIn, tickIdle, tickAfter, ticked}
 use Rattle.step.specs.Strict.{strictOf}
 use Rattle.step.proofs.Kept.{Kept}
-use Rattle.step.proofs.Charged.{ran-inside, ran-outside, ran-nobody, charged-sized, charged-tasks, charged-used}
+use Rattle.step.proofs.Pays.{Paid, Pays, givenIn, runsIn}
+use Rattle.step.proofs.Charged.{ran-inside, ran-outside, ran-nobody}
 use Rattle.step.proofs.Refilled.{refilled-tasks, refilled-used}
 use Rattle.step.proofs.Spent.{Unspent, shut-unspent}
 use Rattle.step.proofs.Waited.{unspent-unused, given-nobody}
 use Rattle.step.proofs.Still.{shut-still}
-use Rattle.step.proofs.Ticked.{given-kept}
+use Rattle.step.proofs.Ticked.{given-kept, chosen-pays}
 use Rattle.step.proofs.Strict.{HoldsBack}
 use Rattle.step.proofs.Lowers.{Lowers, strict-less, strict-falls, change-lowers}
 use Rattle.step.proofs.HeldBack.{Pressed, pressed-still, taker-strict, shut-strict}
@@ -104,17 +104,17 @@ module _ (p : Plan) (s : State) (Z : Sized s) (row k : ℕ) (there : k < p .task
     inside-falls H more = strict-falls p s u row inside-lowers k there H (rw (u-last, u-used) (omega arith))
 
 -- (c) whole: c is charged and k runs, if it is there
-module _ (p : Plan) (s : State) (A : Accepted p) (S : Kept p s) (c row : ℕ) where
+module _ (p : Plan) (s : State) (A : Accepted p) (S : Kept p s) (c row : ℕ) (v : State) (Q : Paid s c v) where
   -- the charge alone
-  charged-strict : strictOf p (charged s c) row ≤ strictOf p s row
-  charged-strict = same-strict p s (charged s c) row (charged-tasks s c) (charged-used s c)
+  charged-strict : strictOf p v row ≤ strictOf p s row
+  charged-strict = same-strict p s v row (Q .tasks) (Q .used)
 
   -- what the task says after the charge
-  charged-inside : (k : ℕ) (b : Bool) → inSection p (taskAt s k) ≡ b → inSection p (taskAt (charged s c) k) ≡ b
-  charged-inside k b e = ap (inSection p) (charged-tasks s c k) ∙ e
+  charged-inside : (k : ℕ) (b : Bool) → inSection p (taskAt s k) ≡ b → inSection p (taskAt v k) ≡ b
+  charged-inside k b e = ap (inSection p) (Q .tasks k) ∙ e
 
   -- the others after the charge
-  charged-others : (k : ℕ) → k < p .tasks → inSection p (taskAt s k) ≡ true → OthersOutside p (charged s c) k (owner p k)
+  charged-others : (k : ℕ) → k < p .tasks → inSection p (taskAt s k) ≡ true → OthersOutside p v k (owner p k)
   charged-others k h i j l o n =
       charged-inside j false (engaged-others p s (legal-tasks p s (S .legal)) k (owner p k) h refl (section-engaged p (taskAt s k) i) j l o n)
 
@@ -127,45 +127,41 @@ module _ (p : Plan) (s : State) (A : Accepted p) (S : Kept p s) (c row : ℕ) wh
     c-most : owner p k < mostSubsystems
     c-most = omega (arith, A .owner-there k h, A .subsystems-most)
 
-    -- the lists keep their lengths
-    Z : Sized (charged s c)
-    Z = charged-sized s c (S .sized)
-
     -- the running task is inside a section
-    ran-inside-strict : inSection p (taskAt s k) ≡ true → strictOf p (ran p (charged s c) k) row ≤ strictOf p s row
+    ran-inside-strict : inSection p (taskAt s k) ≡ true → strictOf p (ran p v k) row ≤ strictOf p s row
     unfolding u t
     ran-inside-strict i =
-        rw (ran-inside p (charged s c) k h (charged-inside k true i))
-        (le-trans (strict-less p (charged s c) _ row (inside-lowers p (charged s c) Z row k h k-most (charged-inside k true i) (charged-others k h i) c-most)) charged-strict)
+        rw (ran-inside p v k h (charged-inside k true i))
+        (le-trans (strict-less p v _ row (inside-lowers p v (Q .sized) row k h k-most (charged-inside k true i) (charged-others k h i) c-most)) charged-strict)
 
     -- or outside
-    ran-outside-strict : inSection p (taskAt s k) ≡ false → strictOf p (ran p (charged s c) k) row ≤ strictOf p s row
+    ran-outside-strict : inSection p (taskAt s k) ≡ false → strictOf p (ran p v k) row ≤ strictOf p s row
     unfolding t
     ran-outside-strict o =
-        rw (ran-outside p (charged s c) k h (charged-inside k false o))
-        (le-trans (strict-less p (charged s c) _ row (outside-lowers p (charged s c) Z row k h k-most (charged-inside k false o))) charged-strict)
+        rw (ran-outside p v k h (charged-inside k false o))
+        (le-trans (strict-less p v _ row (outside-lowers p v (Q .sized) row k h k-most (charged-inside k false o))) charged-strict)
 
     -- the running task holds row back
-    ran-falls : HoldsBack p s row k → usedOf s (owner p k) < lengthOf p k (lastHeld (taskAt s k)) → strictOf p (ran p (charged s c) k) row + 1 ≤ strictOf p s row
+    ran-falls : HoldsBack p s row k → usedOf s (owner p k) < lengthOf p k (lastHeld (taskAt s k)) → strictOf p (ran p v k) row + 1 ≤ strictOf p s row
     unfolding u t
     ran-falls H more =
         let i = charged-inside k true (H .inside) in
-        let q = charged-tasks s c k in
-        rw (ran-inside p (charged s c) k h i)
+        let q = Q .tasks k in
+        rw (ran-inside p v k h i)
         (le-trans
-        (inside-falls p (charged s c) Z row k h k-most i (charged-others k h (H .inside)) c-most
+        (inside-falls p v (Q .sized) row k h k-most i (charged-others k h (H .inside)) c-most
         (record { inside = i; lower = H .lower; reaches = rw q (H .reaches) })
-        (rw (q, charged-used s c (owner p k)) more))
+        (rw (q, Q .used (owner p k)) more))
         charged-strict)
 
   -- either, or nobody runs
-  ran-strict : (k : ℕ) → strictOf p (ran p (charged s c) k) row ≤ strictOf p s row
+  ran-strict : (k : ℕ) → strictOf p (ran p v k) row ≤ strictOf p s row
   ran-strict k = go (row-there k (p .tasks)) (decided (inSection p (taskAt s k)))
     where
-      go : (k < p .tasks) ⊎ (p .tasks ≤ k) → (inSection p (taskAt s k) ≡ true) ⊎ (inSection p (taskAt s k) ≡ false) → strictOf p (ran p (charged s c) k) row ≤ strictOf p s row
+      go : (k < p .tasks) ⊎ (p .tasks ≤ k) → (inSection p (taskAt s k) ≡ true) ⊎ (inSection p (taskAt s k) ≡ false) → strictOf p (ran p v k) row ≤ strictOf p s row
       go (inl h) (inl i) = ran-inside-strict k h i
       go (inl h) (inr o) = ran-outside-strict k h o
-      go (inr h) i = rw (ran-nobody p (charged s c) k h) charged-strict
+      go (inr h) i = rw (ran-nobody p v k h) charged-strict
 
 -- (b) does nothing for a task that does not wait
 given-going : (p : Plan) (s : State) (k : ℕ) → isWaiting (taskAt s k) ≡ false → givenWaited p s k ≡ s
@@ -200,12 +196,12 @@ module _ (p : Plan) (s : State) (A : Accepted p) (U : Unspent p s) (row : ℕ) (
       go (nobody N) = absurd (n (N .none))
 
   -- its task runs, and takes a tick from what holds row back
-  holder-falls : level p row < level p (chosen p s) → (H : ByHolding p s (chosen p s))
-      → strictOf p (ran p (charged (givenWaited p s (H .holder)) (chosen p s)) (runs (givenWaited p s (H .holder)) (H .holder))) row + 1 ≤ strictOf p s row
+  holder-falls : level p row < level p (chosen p s) → (H : ByHolding p s (chosen p s)) → (v : State) → Paid (givenWaited p s (H .holder)) (chosen p s) v
+      → strictOf p (ran p v (runs (givenWaited p s (H .holder)) (H .holder))) row + 1 ≤ strictOf p s row
   unfolding chosenTask
-  holder-falls low H =
+  holder-falls low H v Q =
       rw (given-going p s j going, runs-going s j going)
-      (ran-falls p s A (U .kept) (chosen p s) row j (H .there)
+      (ran-falls p s A (U .kept) (chosen p s) row v (rw (given-going p s j going) at Q) j (H .there)
       (record { inside = H .inside; lower = rw (H .owned) low; reaches = le-trans (H .not-below (P .by) (P .there) (P .busy)) (P .high) })
       (rw taken-j at (unspent-unused p s (U .unspent)) (H .inside)))
     where
@@ -230,20 +226,22 @@ module _ (p : Plan) (x : Shut) (A : Accepted p) (U : Unspent p (x .state)) (row 
   in-eases n =
       record {
         less =
-            le-trans (refilled-strict p _ row)
-            (le-trans (ran-strict p _ A (given-kept p (x .state) A U) (chosen p (x .state)) row _) (given-strict p (x .state) A U row P));
-        falls = λ h low. fall low (lower-holds p (x .state) A U row P low n);
+            rw (L .after)
+            (le-trans (refilled-strict p _ row)
+            (le-trans (ran-strict p _ A (given-kept p (x .state) A U) c row _ (L .pays) _) (given-strict p (x .state) A U row P)));
+        falls = λ h low. rw (L .after) (refilled-falls p _ row _ (fall low (lower-holds p (x .state) A U row P low n) (L .paid) (L .pays)));
       }
     where
-      k : ℕ
-      k = taken p (x .state) (chosen p (x .state))
+      c : ℕ
+      c = chosen p (x .state)
 
-      fall : level p row < level p (chosen p (x .state)) → ByHolding p (x .state) (chosen p (x .state))
-          → strictOf p (refilled p (ran p (charged (givenWaited p (x .state) k) (chosen p (x .state))) (runs (givenWaited p (x .state) k) k))) row + 1
-          ≤ strictOf p (x .state) row
-      fall low H =
-          rw (holder-taken p (x .state) (U .kept .legal) (chosen p (x .state)) H)
-          (refilled-falls p _ row _ (holder-falls p (x .state) A U row P low H))
+      L : Pays p x c
+      L = chosen-pays p x A U n
+
+      fall : level p row < level p c → ByHolding p (x .state) c → (v : State) → Paid (givenIn p x c) c v → strictOf p (ran p v (runsIn p x c)) row + 1 ≤ strictOf p (x .state) row
+      fall low H v Q =
+          let e = holder-taken p (x .state) (U .kept .legal) c H in
+          rw e (holder-falls p (x .state) A U row P low H v (rw e at Q))
 
   -- none is
   idle-eases : chosen p (x .state) ≡ noRow → Eases p (x .state) row (tickIdle p x)

@@ -14,17 +14,17 @@ use Rattle.plan.specs.Facts.{Accepted}
 use Rattle.state.specs.declared.State.{State}
 use Rattle.state.specs.State.{taskAt, leftOf, isWaiting, isActive, holds}
 use Rattle.state.specs.Sized.{Sized}
-use Rattle.state.specs.Facts.{Legal}
-use Rattle.state.proofs.Facts.{NoSection}
-use Rattle.state.proofs.Tasks.{section-active}
-use Rattle.state.proofs.Parts.{legal-counts}
+use Rattle.legal.specs.Facts.{Legal}
+use Rattle.legal.proofs.Facts.{NoSection}
+use Rattle.legal.proofs.Tasks.{section-active}
+use Rattle.legal.proofs.Parts.{legal-counts}
 use Rattle.choice.specs.Choice.{chosen, taken, runs, chosenTask}
 use Rattle.choice.proofs.Taken.{Takes, taken-cases}
 use Rattle.choice.proofs.ChosenFacts.{Chosen, by-level, by-holding, nobody, chosen-cases, chosen-there, holder-taken}
-use Rattle.step.specs.declared.Shut.{Shut}
 use Rattle.step.specs.declared.Outcome.{Outcome}
-use Rattle.step.specs.Tick.{isSpent, shutSpent, givenWaited, charged, ran, tickIn, tickIdle, tickAfter, ticked}
+use Rattle.step.specs.Tick.{Shut, isSpent, shutSpent, givenWaited, ran, tickIn, tickIdle, tickAfter, ticked}
 use Rattle.step.proofs.Kept.{Kept}
+use Rattle.step.proofs.Pays.{Paid, Pays, tick-pays}
 use Rattle.step.proofs.Charged.{nobody-run-kept, task-run-kept}
 use Rattle.step.proofs.Refilled.{refilled-kept}
 use Rattle.step.proofs.Spent.{Unspent, shut-unspent}
@@ -56,9 +56,10 @@ module _ (p : Plan) (s : State) (A : Accepted p) (U : Unspent p s) where
       (taken-cases p s (chosen p s))
 
   -- (b) and (c)
-  run-kept : chosen p s ≢ noRow → Kept p (ran p (charged (givenWaited p s (chosenTask p s)) (chosen p s)) (runs (givenWaited p s (chosenTask p s)) (chosenTask p s)))
+  run-kept : chosen p s ≢ noRow → (v : State) → Paid (givenWaited p s (taken p s (chosen p s))) (chosen p s) v
+      → Kept p (ran p v (runs (givenWaited p s (taken p s (chosen p s))) (taken p s (chosen p s))))
   unfolding chosenTask
-  run-kept n = ⊎-elim none some (taken-cases p s (chosen p s))
+  run-kept n v Q = ⊎-elim none some (taken-cases p s (chosen p s))
     where
       c : ℕ
       c = chosen p s
@@ -69,23 +70,27 @@ module _ (p : Plan) (s : State) (A : Accepted p) (U : Unspent p s) where
       there : c < p .subsystems
       there = chosen-there p s A (U .kept .legal) n
 
-      none : (k ≡ noRow) × ((j : ℕ) → j < p .tasks → owner p j ≡ c → isActive (taskAt s j) ≡ false)
-          → Kept p (ran p (charged (givenWaited p s k) c) (runs (givenWaited p s k) k))
+      none : (k ≡ noRow) × ((j : ℕ) → j < p .tasks → owner p j ≡ c → isActive (taskAt s j) ≡ false) → Kept p (ran p v (runs (givenWaited p s k) k))
       none e =
           let out : NoSection p s c = λ j l o. fails _ (λ i. clash (section-active p j (taskAt s j) (U .kept .legal .task j l) i) (e .1 j l o)) in
-          rw (ap (givenWaited p s) (e .0) ∙ given-nobody p s (U .kept .sized)) (nobody-run-kept p s A (U .kept) c there k (e .0) out)
+          let same = ap (givenWaited p s) (e .0) ∙ given-nobody p s (U .kept .sized) in
+          rw same (nobody-run-kept p s A (U .kept) c there v (rw same at Q) k (e .0) out)
 
-      some : Takes p (taskAt s) c k → Kept p (ran p (charged (givenWaited p s k) c) (runs (givenWaited p s k) k))
+      some : Takes p (taskAt s) c k → Kept p (ran p v (runs (givenWaited p s k) k))
       some K =
           let G = given-after p s A (U .kept) k K (unspent-unused p s (U .unspent)) in
-          task-run-kept p (givenWaited p s k) A (G .kept) c there k (G .takes) (rw (G .takes .owned) at (G .unused))
+          task-run-kept p (givenWaited p s k) A (G .kept) c there v Q k (G .takes) (rw (G .takes .owned) at (G .unused))
 
 -- what follows (a)
 module _ (p : Plan) (x : Shut) (A : Accepted p) (U : Unspent p (x .state)) where
   -- a subsystem is chosen
+
+  pub chosen-pays : chosen p (x .state) ≢ noRow → Pays p x (chosen p (x .state))
+  chosen-pays n =
+      tick-pays p x (chosen p (x .state)) (given-kept p (x .state) A U .sized) (omega (arith, chosen-there p (x .state) A (U .kept .legal) n, A .subsystems-most))
+
   tick-in-kept : chosen p (x .state) ≢ noRow → Kept p (tickIn p x (chosen p (x .state)) .state)
-  unfolding tickIn chosenTask
-  tick-in-kept n = refilled-kept p _ A (run-kept p (x .state) A U n)
+  tick-in-kept n = rw (chosen-pays n .after) (refilled-kept p _ A (run-kept p (x .state) A U n _ (chosen-pays n .pays)))
 
   -- none is
   tick-idle-kept : Kept p (tickIdle p x .state)

@@ -7,9 +7,8 @@ use Rattle.plan.specs.Plan.{owner}
 use Rattle.state.specs.declared.State.{State}
 use Rattle.state.specs.Update.{withUsed}
 use Rattle.choice.specs.Choice.{chosenTask}
-use Rattle.step.specs.declared.Shut.{Shut}
 use Rattle.step.specs.Events.{endedTask}
-use Rattle.step.specs.Tick.{isSpent, shutOne, shutTurns, shutSpent}
+use Rattle.step.specs.Tick.{Shut, isSpent, shutOne, shutTurns, shutSpent}
 
 -- the state after one turn
 abbrev pub shutState : Plan → State → ℕ → State

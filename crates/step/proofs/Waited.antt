@@ -18,11 +18,11 @@ use lib.ListN.{length}
 use Rattle.state.specs.State.{mostHeld, taskAt, usedOf, isWaiting, isActive, holds, lastHeld, inSection, sectionLeft}
 use Rattle.state.specs.Update.{withTask, taking}
 use Rattle.state.specs.Sized.{Sized}
-use Rattle.state.specs.Facts.{WaitLegal}
 use Rattle.state.proofs.Update.{held-sized, taskAt-past, taskAt-withTask, taskAt-withTask-other, usedOf-withTask}
 use Rattle.state.proofs.TaskUpdate.{idle-waiting, taking-active, taking-last, taking-sized}
-use Rattle.state.proofs.Parts.{legal-tasks}
-use Rattle.state.proofs.Changed.{OthersOutside, all-outside}
+use Rattle.legal.specs.Facts.{WaitLegal}
+use Rattle.legal.proofs.Parts.{legal-tasks}
+use Rattle.legal.proofs.Changed.{OthersOutside, all-outside}
 use Rattle.choice.specs.Choice.{chosen, chosenTask}
 use Rattle.choice.proofs.Taken.{Takes, taken-takes}
 use Rattle.step.specs.Events.{lengthFitsBudget, withTaken}

@@ -16,17 +16,16 @@ use Rattle.plan.specs.Plan.{owner}
 use Rattle.plan.specs.Facts.{Accepted}
 use Rattle.plan.proofs.Facts.{row-there}
 use Rattle.state.specs.declared.State.{State}
+use Rattle.state.specs.Sized.{Sized}
 use Rattle.state.specs.State.{mostHeld, taskAt, usedOf, inSection}
-use Rattle.state.proofs.Update.{taskAt-past}
+use Rattle.state.proofs.Update.{taskAt-past, usedOf-withLeft, sized-withLeft}
 use Rattle.state.proofs.TaskUpdate.{idle-count}
-use Rattle.state.proofs.Tasks.{section-global, section-there, section-declares}
+use Rattle.legal.proofs.Tasks.{section-global, section-there, section-declares}
 use Rattle.choice.specs.Choice.{chosen, taken, runs, chosenTask}
-use Rattle.step.specs.declared.Shut.{Shut}
 use Rattle.step.specs.declared.tick.Settled.{Settled}
 use Rattle.step.specs.Lent.{Settles}
-use Rattle.step.specs.Tick.{givenWaited, charged, ran, refilled, tickAnswer, tickIn, tickIdle, tickAfter, ticked}
+use Rattle.step.specs.Tick.{Shut, givenWaited, charged, ran, refilled, tickAnswer, tickIn, tickIdle, tickAfter, ticked}
 use Rattle.step.proofs.Kept.{Kept}
-use Rattle.step.proofs.Charged.{charged-used}
 use Rattle.step.proofs.Spent.{Unspent, shut-unspent}
 use Rattle.step.proofs.Ticked.{given-kept}
 
@@ -98,10 +97,10 @@ module _ (p : Plan) (x : Shut) where
   tick-in-is c k j a given paid after u ek eg ej ep er ea eu = rw (eu, er, ep, ej, eg, ek, ea)
 
 -- a tick, by what (a) left
-module _ (p : Plan) (s : State) (A : Accepted p) (S : Kept p s) (x : Settled) (T : Settles p s x) where
+module _ (p : Plan) (s : State) (A : Accepted p) (S : Kept p s) (v : State) (x : Settled) (T : Settles p s v x) where
   -- what (a) left
   abbrev shut : Shut
-  shut = record { state = x .state; ended = x .ended }
+  shut = record { state = v; ended = x .ended }
 
   -- is what it leaves by its definition
   ticked-after : ticked p s ≡ tickAfter p shut
@@ -109,34 +108,44 @@ module _ (p : Plan) (s : State) (A : Accepted p) (S : Kept p s) (x : Settled) (T
   ticked-after = ap (tickAfter p) (sym (λ i. record { state = T .state i; ended = T .ended i }))
 
   -- nothing is used up there
-  unspent : Unspent p (x .state)
+  unspent : Unspent p v
   unspent = rw (T .state) (shut-unspent p A s S)
 
   -- with no subsystem chosen
-  pub ticked-idle : x .subsystem ≡ noRow → (a : ℕ) (u : State) → a ≡ tickAnswer (x .ended) → u ≡ refilled p (x .state)
+  pub ticked-idle : x .subsystem ≡ noRow → (a : ℕ) (u : State) → a ≡ tickAnswer (x .ended) → u ≡ refilled p v
       → record { answer = a; subsystem = 255; task = 255; ended = x .ended; state = u } ≡ ticked p s
   ticked-idle n a u e f = tick-idle-is p shut a u e f ∙ sym (after-none p shut (sym (T .subsystem) ∙ n)) ∙ sym ticked-after
 
+  -- (a) leaves lists of their lengths
+  pub shut-sized : Sized v
+  shut-sized = unspent .kept .sized
+
   -- (b) has room for what it takes
-  pub waited-room : taskAt (x .state) (x .task) .count < 255
-  waited-room = omega (arith, count-most p (x .state) A (unspent .kept) (x .task))
+  pub waited-room : taskAt v (x .task) .count < 255
+  waited-room = omega (arith, count-most p v A (unspent .kept) (x .task))
 
   -- (b) leaves a legal state
-  given-legal : Kept p (givenWaited p (x .state) (x .task))
+  given-legal : Kept p (givenWaited p v (x .task))
   unfolding chosenTask
-  given-legal = rw (T .task) (given-kept p (x .state) A unspent)
+  given-legal = rw (T .task) (given-kept p v A unspent)
+
+  -- and so does (c) once it has charged
+  pub paid-sized : (given : State) → given ≡ givenWaited p v (x .task) → (paid : State) → paid ≡ charged given (x .subsystem) → Sized paid
+  unfolding charged
+  paid-sized given eg paid ep = rw ep (sized-withLeft given (x .subsystem) _ (rw eg (given-legal .sized)))
 
   -- (c) has room for one tick more
-  pub used-room : (given : State) → given ≡ givenWaited p (x .state) (x .task) → (paid : State) → paid ≡ charged given (x .subsystem) → (c : ℕ) → usedOf paid c < 65535
-  used-room given eg paid ep c = rw (ep, charged-used given (x .subsystem) c) (omega (arith, used-most p given A (rw eg given-legal) c))
+  pub used-room : (given : State) → given ≡ givenWaited p v (x .task) → (paid : State) → paid ≡ charged given (x .subsystem) → (c : ℕ) → usedOf paid c < 65535
+  unfolding charged
+  used-room given eg paid ep c = rw (ep, usedOf-withLeft given (x .subsystem) _ c) (omega (arith, used-most p given A (rw eg given-legal) c))
 
   -- with one
-  pub ticked-in : (x .subsystem ≡ noRow → ⊥) → (j a : ℕ) (given paid after u : State) → given ≡ givenWaited p (x .state) (x .task) → j ≡ runs given (x .task)
+  pub ticked-in : (x .subsystem ≡ noRow → ⊥) → (j a : ℕ) (given paid after u : State) → given ≡ givenWaited p v (x .task) → j ≡ runs given (x .task)
       → paid ≡ charged given (x .subsystem) → after ≡ ran p paid j → a ≡ tickAnswer (x .ended) → u ≡ refilled p after
       → record { answer = a; subsystem = x .subsystem; task = j; ended = x .ended; state = u } ≡ ticked p s
   unfolding chosenTask
   ticked-in n j a given paid after u eg ej ep er ea eu =
-      tick-in-is p shut (x .subsystem) (x .task) j a given paid after u (T .task ∙ ap (taken p (x .state)) (sym (T .subsystem))) eg ej ep er ea eu
+      tick-in-is p shut (x .subsystem) (x .task) j a given paid after u (T .task ∙ ap (taken p v) (sym (T .subsystem))) eg ej ep er ea eu
       ∙ ap (tickIn p shut) (T .subsystem)
       ∙ sym (after-some p shut (λ e. n (T .subsystem ∙ e)))
       ∙ sym ticked-after

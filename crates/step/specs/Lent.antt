@@ -15,11 +15,14 @@ use Rattle.state.specs.declared.BudgetLeft.{BudgetLeft}
 use Rattle.state.specs.declared.Task.{Task}
 use Rattle.state.specs.declared.State.{State}
 use Rattle.state.specs.State.{taskAt, inSection, sectionLeft}
+use Rattle.state.specs.Lent.{stateWith}
 use Rattle.state.specs.Sized.{Sized}
-use Rattle.state.specs.Facts.{Legal}
+use Rattle.legal.specs.Facts.{Legal}
 use Rattle.choice.specs.declared.Choice.{Choice}
 use Rattle.choice.specs.Choice.{chosen, chosenTask, running}
 use Rattle.step.specs.declared.Rows.{Rows}
+use Rattle.step.specs.declared.Reply.{Reply}
+use Rattle.step.specs.declared.Outcome.{Outcome}
 use Rattle.step.specs.declared.tick.Settled.{Settled}
 use Rattle.step.specs.Tick.{shutSpent}
 
@@ -48,6 +51,11 @@ pub record Lent (p : Plan) (s : State) (rows : Rows) (lengths : List ℕ) : Type
   pub rows-of : RowsOf p rows lengths
   pub sized : Sized s
   pub legal : Legal p s
+
+-- the outcome of a reply, with the columns of tasks that it leaves
+abbrev pub outcomeWith : Reply → List ℕ → List ℕ → List ℕ → List ℕ → Outcome
+outcomeWith r conditions waits counts held =
+    record { answer = r .answer; subsystem = r .subsystem; task = r .task; ended = r .ended; state = stateWith (r .clocks) conditions waits counts held }
 
 -- what a refusal is asked of: t is task k, and the row that runs is known
 pub record Asked (p : Plan) (s : State) (tasks resources : ℕ) (kinds lengths : List ℕ) (row : ℕ) (t : Task) (k : ℕ) : Type 0 where
@@ -81,9 +89,9 @@ pub record Chooses (p : Plan) (s : State) (c : Choice) : Type 0 where
   pub subsystem : c .subsystem ≡ chosen p s
   pub task : c .task ≡ chosenTask p s
 
--- the state and the tasks ended are those after (a), and the choice is that of the state then
-pub record Settles (p : Plan) (s : State) (x : Settled) : Type 0 where
-  pub state : x .state ≡ shutSpent p s .state
+-- state u and the tasks ended are those after (a), and the choice is that of the state then
+pub record Settles (p : Plan) (s u : State) (x : Settled) : Type 0 where
+  pub state : u ≡ shutSpent p s .state
   pub ended : x .ended ≡ shutSpent p s .ended
-  pub subsystem : x .subsystem ≡ chosen p (x .state)
-  pub task : x .task ≡ chosenTask p (x .state)
+  pub subsystem : x .subsystem ≡ chosen p u
+  pub task : x .task ≡ chosenTask p u

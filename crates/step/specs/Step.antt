@@ -6,7 +6,7 @@ use Rattle.plan.specs.declared.Plan.{Plan}
 use Rattle.plan.specs.Limits.{noRow}
 use Rattle.plan.specs.Accepted.{accepted}
 use Rattle.state.specs.declared.State.{State}
-use Rattle.state.specs.Legal.{legal}
+use Rattle.legal.specs.Legal.{legal}
 use Rattle.step.specs.declared.Outcome.{Outcome}
 use Rattle.step.specs.declared.Answer.{Answer}
 use Rattle.step.specs.Refusals.{release, lock, unlock, end, tick, refusal}

@@ -12,8 +12,12 @@ use Rattle.state.specs.State.{taskAt, leftOf, refillOf, usedOf, isWaiting, inSe
 use Rattle.state.specs.Update.{withTask, withLeft, withUsed, started}
 use Rattle.choice.specs.Choice.{chosen, taken, runs, chosenTask}
 use Rattle.step.specs.declared.Outcome.{Outcome}
-use Rattle.step.specs.declared.Shut.{Shut}
 use Rattle.step.specs.Events.{lengthFitsBudget, withTaken, endedTask}
+
+-- a state on the way through a tick, with the tasks ended so far
+pub record Shut : Type 0 where
+  pub state : State
+  pub ended : ℕ
 
 -- (a) the chosen task holds a global whose length is used up
 unfoldable pub isSpent : Plan → State → Bool

@@ -12,6 +12,7 @@ mod tick;
 
 use event::stepped;
 use plan::Plan;
+use state::Clocks;
 use state::State;
 
 // What an event gives. answer is the number of the answer; subsystem and task are rows, 255 for none; ended has bit i set where task i was ended.
@@ -31,10 +32,13 @@ pub struct Answer {
     pub ended: u32,
 }
 
-// A state on the way through a tick, with the tasks ended so far.
-pub struct Shut {
-    pub state: State,
+// The same where the columns of the tasks are lent and altered: beside them, the clocks that the event leaves.
+pub struct Reply {
+    pub answer: u8,
+    pub subsystem: u8,
+    pub task: u8,
     pub ended: u32,
+    pub clocks: Clocks,
 }
 
 // What a step reads of a plan beside the lengths: its rows, and the ceilings of its resources, worked out once.
@@ -90,7 +94,7 @@ pub fn step(p: Plan, s: State, kind: u32, task: u32, resource: u32) -> Outcome
         return unread(s, 31);
     }
     let ceilings = plan::ceilings(p);
-    if !state::legal(p, ceilings, s) {
+    if !legal::legal(p, ceilings, s) {
         return unread(s, 32);
     }
     stepped(rows_with(p, ceilings), &p.lengths, s, kind, task, resource)

@@ -1,58 +1,71 @@
-// "Events", tick: (a) to (d).
+// "Events", tick: (a) to (d). The columns of the tasks are lent and altered where they lie.
 ghost use mathlib.Core.Path.{_≡_};
-ghost use Prim.Native.Nat.{_+_, _-_, _<_, _^_};
+ghost use mathlib.Core.List.{List};
+ghost use Prim.Native.Nat.{ℕ, _+_, _-_, _<_, _^_};
 ghost use Rattle.plan.specs.declared.Plan.{Plan};
 ghost use Rattle.plan.specs.Plan.{owner};
 ghost use Rattle.state.specs.State.{taskAt, usedOf};
-ghost use Rattle.step.specs.Lent.{RowsOf, Lent, spentAt, leftRefilled, refillRefilled, Settles};
-ghost use Rattle.step.specs.Tick.{shutOne, givenWaited, charged, ran, refilled, tickAnswer, ticked};
-use crate::Outcome;
+ghost use Rattle.state.specs.Update.{withUsed};
+ghost use Rattle.state.specs.Sized.{Sized};
+ghost use Rattle.state.specs.Lent.{stateWith};
+ghost use Rattle.step.specs.Events.{endedTask};
+ghost use Rattle.step.specs.Lent.{RowsOf, Lent, outcomeWith, spentAt, leftRefilled, refillRefilled, Settles};
+ghost use Rattle.step.specs.Tick.{givenWaited, charged, ran, refilled, tickAnswer, ticked};
+use crate::Reply;
 use crate::Rows;
-use crate::Shut;
 use crate::shared::chosen;
-use crate::shared::ended_task;
 use crate::shared::length_fits_budget;
-use crate::shared::task_of;
-use crate::shared::with_taken;
 use choice::runs;
 use plan::tables::byte_at;
 use plan::tables::word_at;
 use state::BudgetLeft;
-use state::State;
+use state::Clocks;
+use state::idle_task;
 use state::in_section;
 use state::left_at;
+use state::put_task;
 use state::section_left;
 use state::started;
+use state::taking;
+use state::task_at;
 use state::with_left;
-use state::with_task;
 use state::with_used;
 
-// What (a) leaves: the state, the tasks ended, and the choice that is made then.
+// What (a) leaves beside the tasks: the clocks, the tasks ended, and the choice that is made then.
 struct Settled {
-    state: State,
+    clocks: Clocks,
     ended: u32,
     subsystem: u8,
     task: u8,
 }
 
 // (a) Task k holds a global whose length is used up.
-fn is_spent(rows: Rows, lengths: &[u16], s: State, k: u8) -> bool
-    ensures { λ x. ⌜ ((p : Plan) → RowsOf p rows (now (lengths .entry)) → x ≡ spentAt p s k) ⌝ }
+fn is_spent<'a, 'b>(
+    rows: Rows,
+    lengths: &'a [u16],
+    q: Clocks,
+    conditions: &'b [u8; 32],
+    waits: &'b [u8; 32],
+    counts: &'b [u8; 32],
+    held: &'b [u8; 128],
+    k: u8,
+) -> bool
+    ensures { λ x. ⌜ ((p : Plan) → RowsOf p rows (now (lengths .entry)) → x ≡ spentAt p (stateWith q (now (conditions .entry)) (now (waits .entry)) (now (counts .entry)) (now (held .entry))) k) ⌝ }
 {
-    if !in_section(&rows.kinds, task_of(s, k)) {
+    if !in_section(&rows.kinds, task_at(conditions, waits, counts, held, k)) {
         return false;
     }
-    let q = section_left(
+    let left = section_left(
         &rows.owners,
         lengths,
-        &s.used,
-        &s.conditions,
-        &s.waits,
-        &s.counts,
-        &s.held,
+        &q.used,
+        conditions,
+        waits,
+        counts,
+        held,
         k,
     );
-    q.0 == 0
+    left.0 == 0
 }
 
 // A set of tasks with one more. A task that is in it already would not fit, and the set stays.
@@ -70,65 +83,97 @@ fn with_ended(ended: u32, k: u8) -> u32
 }
 
 // (a) Task k is ended, all it holds is freed and used is set to 0.
-fn shut_one(rows: Rows, x: Shut, k: u8) -> Shut
-    ensures { λ r. ⌜ ((p : Plan) → RowsOf p rows (p .lengths) → k < 32 → x .ended + 2 ^ k < 2 ^ 32 → r ≡ shutOne p x k) ⌝ }
+fn shut_one(
+    rows: Rows,
+    q: Clocks,
+    conditions: &mut [u8; 32],
+    waits: &mut [u8; 32],
+    counts: &mut [u8; 32],
+    held: &mut [u8; 128],
+    k: u8,
+) -> Clocks
+    ensures { λ r. ⌜ ((p : Plan) → RowsOf p rows (p .lengths) → Sized (stateWith q (now (conditions .entry)) (now (waits .entry)) (now (counts .entry)) (now (held .entry)))
+        → stateWith r (now (conditions .exit)) (now (waits .exit)) (now (counts .exit)) (now (held .exit)) ≡ withUsed (endedTask (stateWith q (now (conditions .entry)) (now (waits .entry)) (now (counts .entry)) (now (held .entry))) k) (owner p k) 0) ⌝ }
 {
-    let s = x.state;
-    let freed = with_used(ended_task(s, k), byte_at(&rows.owners, k as usize), 0);
-    Shut {
-        state: freed,
-        ended: with_ended(x.ended, k),
-    }
+    put_task(conditions, waits, counts, held, k, idle_task());
+    with_used(q, byte_at(&rows.owners, k as usize), 0)
 }
 
 // (a) while it is so, the choice being made again.
-fn settle(rows: Rows, lengths: &[u16], s: State) -> Settled
-    ensures { λ x. ⌜ ((p : Plan) → Lent p s rows (now (lengths .entry)) → Settles p s x) ⌝ }
+fn settle(
+    rows: Rows,
+    lengths: &[u16],
+    q: Clocks,
+    conditions: &mut [u8; 32],
+    waits: &mut [u8; 32],
+    counts: &mut [u8; 32],
+    held: &mut [u8; 128],
+) -> Settled
+    ensures { λ x. ⌜ ((p : Plan) → Lent p (stateWith q (now (conditions .entry)) (now (waits .entry)) (now (counts .entry)) (now (held .entry))) rows (now (lengths .entry)) → Settles p (stateWith q (now (conditions .entry)) (now (waits .entry)) (now (counts .entry)) (now (held .entry))) (stateWith (x .clocks) (now (conditions .exit)) (now (waits .exit)) (now (counts .exit)) (now (held .exit))) x) ⌝ }
 {
-    let mut x = Shut { state: s, ended: 0 };
-    let mut c = chosen(rows, s);
+    let mut clocks = q;
+    let mut ended: u32 = 0;
+    let left = q.left;
+    let mut c = chosen(rows, left, conditions, counts, held);
     let mut turn: u8 = 0;
     while turn < rows.subsystems {
-        let before = x.state;
-        if !is_spent(rows, lengths, before, c.task) {
+        if !is_spent(
+            rows,
+            lengths,
+            clocks,
+            conditions,
+            waits,
+            counts,
+            held,
+            c.task,
+        ) {
             break;
         }
-        x = shut_one(rows, x, c.task);
-        let after = x.state;
-        c = chosen(rows, after);
+        clocks = shut_one(rows, clocks, conditions, waits, counts, held, c.task);
+        ended = with_ended(ended, c.task);
+        let budgets = clocks.left;
+        c = chosen(rows, budgets, conditions, counts, held);
         turn += 1;
     }
-    let state = x.state;
     Settled {
-        state,
-        ended: x.ended,
+        clocks,
+        ended,
         subsystem: c.subsystem,
         task: c.task,
     }
 }
 
 // (b) If task k waits and its length is at most the budget left, it takes the resource.
-fn given_waited(rows: Rows, lengths: &[u16], s: State, k: u8) -> State
-    ensures { λ x. ⌜ ((p : Plan) → RowsOf p rows (now (lengths .entry)) → taskAt s k .count < 255 → x ≡ givenWaited p s k) ⌝ }
+fn given_waited(
+    rows: Rows,
+    lengths: &[u16],
+    q: Clocks,
+    conditions: &mut [u8; 32],
+    waits: &mut [u8; 32],
+    counts: &mut [u8; 32],
+    held: &mut [u8; 128],
+    k: u8,
+)
+    ensures { λ x. ⌜ ((p : Plan) → RowsOf p rows (now (lengths .entry)) → Sized (stateWith q (now (conditions .entry)) (now (waits .entry)) (now (counts .entry)) (now (held .entry))) → taskAt (stateWith q (now (conditions .entry)) (now (waits .entry)) (now (counts .entry)) (now (held .entry))) k .count < 255
+        → stateWith q (now (conditions .exit)) (now (waits .exit)) (now (counts .exit)) (now (held .exit)) ≡ givenWaited p (stateWith q (now (conditions .entry)) (now (waits .entry)) (now (counts .entry)) (now (held .entry))) k) ⌝ }
 {
-    let t = task_of(s, k);
+    let t = task_at(conditions, waits, counts, held, k);
     if t.condition != 3 {
-        return s;
+        return;
     }
-    let left = s.left;
+    let left = q.left;
     if length_fits_budget(&rows.owners, lengths, left, k, t.waits) {
-        return with_taken(s, k, t.waits);
+        put_task(conditions, waits, counts, held, k, taking(t, t.waits));
     }
-    s
 }
 
 // (c) Subsystem c is charged one tick.
-fn charged(s: State, c: u8) -> State
-    ensures { λ r. ⌜ r ≡ charged s c ⌝ }
+fn charged(q: Clocks, c: u8) -> Clocks
+    ensures { λ r. ⌜ ((conditions waits counts held : List ℕ) → stateWith r conditions waits counts held ≡ charged (stateWith q conditions waits counts held) c) ⌝ }
 {
-    let left = s.left;
-    let q = left_at(left, c);
-    with_left(s, c, one_charged(q))
+    let left = q.left;
+    let before = left_at(left, c);
+    with_left(q, c, one_charged(before))
 }
 
 fn one_charged(q: BudgetLeft) -> BudgetLeft
@@ -147,19 +192,28 @@ fn one_more(n: u16) -> u16
 }
 
 // (c) The running task k, if any, is started and, inside a global section, its used count rises by one.
-fn ran(rows: Rows, s: State, k: u8) -> State
-    ensures { λ x. ⌜ ((p : Plan) → RowsOf p rows (p .lengths) → usedOf s (owner p k) < 65535 → x ≡ ran p s k) ⌝ }
+fn ran(
+    rows: Rows,
+    q: Clocks,
+    conditions: &mut [u8; 32],
+    waits: &mut [u8; 32],
+    counts: &mut [u8; 32],
+    held: &mut [u8; 128],
+    k: u8,
+) -> Clocks
+    ensures { λ x. ⌜ ((p : Plan) → RowsOf p rows (p .lengths) → Sized (stateWith q (now (conditions .entry)) (now (waits .entry)) (now (counts .entry)) (now (held .entry))) → usedOf (stateWith q (now (conditions .entry)) (now (waits .entry)) (now (counts .entry)) (now (held .entry))) (owner p k) < 65535
+        → stateWith x (now (conditions .exit)) (now (waits .exit)) (now (counts .exit)) (now (held .exit)) ≡ ran p (stateWith q (now (conditions .entry)) (now (waits .entry)) (now (counts .entry)) (now (held .entry))) k) ⌝ }
 {
     if rows.tasks <= k {
-        return s;
+        return q;
     }
-    let t = started(task_of(s, k));
-    let next = with_task(s, k, t);
+    let t = started(task_at(conditions, waits, counts, held, k));
+    put_task(conditions, waits, counts, held, k, t);
     if !in_section(&rows.kinds, t) {
-        return next;
+        return q;
     }
     let c = byte_at(&rows.owners, k as usize);
-    with_used(next, c, one_more(word_at(&s.used, c as usize)))
+    with_used(q, c, one_more(word_at(&q.used, c as usize)))
 }
 
 // (d) Budgets left when all ticks to refill fall by one: at 0 they are full again.
@@ -194,26 +248,18 @@ fn refilled_refill(refill: [u16; 8], periods: [u16; 8]) -> [u16; 8]
 }
 
 // (d)
-fn refilled(rows: Rows, s: State) -> State
-    ensures { λ x. ⌜ ((p : Plan) → RowsOf p rows (p .lengths) → x ≡ refilled p s) ⌝ }
+fn refilled(rows: Rows, q: Clocks) -> Clocks
+    ensures { λ x. ⌜ ((p : Plan) (conditions waits counts held : List ℕ) → RowsOf p rows (p .lengths) → stateWith x conditions waits counts held ≡ refilled p (stateWith q conditions waits counts held)) ⌝ }
 {
-    let left = s.left;
-    let refill = s.refill;
-    let used = s.used;
-    let conditions = s.conditions;
-    let waits = s.waits;
-    let counts = s.counts;
-    let held = s.held;
+    let left = q.left;
+    let refill = q.refill;
+    let used = q.used;
     let budgets = rows.budgets;
     let periods = rows.periods;
-    State {
+    Clocks {
         left: refilled_left(left, refill, budgets),
         refill: refilled_refill(refill, periods),
         used,
-        conditions,
-        waits,
-        counts,
-        held,
     }
 }
 
@@ -225,28 +271,38 @@ fn tick_answer(ended: u32) -> u8
 }
 
 // A tick. With no subsystem chosen, after (a) too, only (d) follows.
-pub fn tick(rows: Rows, lengths: &[u16], s: State) -> Outcome
-    ensures { λ r. ⌜ ((p : Plan) → Lent p s rows (now (lengths .entry)) → r ≡ ticked p s) ⌝ }
+pub fn tick(
+    rows: Rows,
+    lengths: &[u16],
+    q: Clocks,
+    conditions: &mut [u8; 32],
+    waits: &mut [u8; 32],
+    counts: &mut [u8; 32],
+    held: &mut [u8; 128],
+) -> Reply
+    ensures { λ r. ⌜ ((p : Plan) → Lent p (stateWith q (now (conditions .entry)) (now (waits .entry)) (now (counts .entry)) (now (held .entry))) rows (now (lengths .entry))
+        → outcomeWith r (now (conditions .exit)) (now (waits .exit)) (now (counts .exit)) (now (held .exit)) ≡ ticked p (stateWith q (now (conditions .entry)) (now (waits .entry)) (now (counts .entry)) (now (held .entry)))) ⌝ }
 {
-    let x = settle(rows, lengths, s);
-    let shut = x.state;
+    let x = settle(rows, lengths, q, conditions, waits, counts, held);
+    let shut = x.clocks;
     if x.subsystem == 255 {
-        return Outcome {
+        return Reply {
             answer: tick_answer(x.ended),
             subsystem: 255,
             task: 255,
             ended: x.ended,
-            state: refilled(rows, shut),
+            clocks: refilled(rows, shut),
         };
     }
-    let given = given_waited(rows, lengths, shut, x.task);
-    let k = runs(&given.conditions, x.task);
-    let after = ran(rows, charged(given, x.subsystem), k);
-    Outcome {
+    given_waited(rows, lengths, shut, conditions, waits, counts, held, x.task);
+    let k = runs(conditions, x.task);
+    let paid = charged(shut, x.subsystem);
+    let after = ran(rows, paid, conditions, waits, counts, held, k);
+    Reply {
         answer: tick_answer(x.ended),
         subsystem: x.subsystem,
         task: k,
         ended: x.ended,
-        state: refilled(rows, after),
+        clocks: refilled(rows, after),
     }
 }

@@ -7,7 +7,7 @@ use Prim.Native.Nat.{ℕ, _<_}
 use lib.ListN.{length, getD}
 use native.Mathlib.Omega.{arith}
 use borrow.Author.Tests.{not-true, not-false}
-use Rattle.state.specs.Legal.{legal}
+use Rattle.legal.specs.Legal.{legal}
 use Rattle.image.specs.Block.{blockBytes, planOf, isBlock}
 use Rattle.image.specs.Image.{imageBytes, stateOf}
 use Rattle.image.proofs.OpenedLaws.{read-is, refused-block, read-block-is, legal-read, not-padded, not-legal, image-passes, short-block, short-image, no-block, no-image, both-opened}

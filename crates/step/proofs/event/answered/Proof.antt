@@ -11,7 +11,12 @@ runs-requires : tie.Need-runs-requires
 runs-requires c κs = search needs
 
 returns : tie.Need-returns
-returns c = λ p L. answered-is p _ _ (c .before .before .before .chosen .ensures p L) _ (c .runs .ensures) _
+returns c = λ p waits l. answered-is p _ _ (c .before .chosen .ensures p _ _ waits l) _ (c .runs .ensures) _
 
 pub answered-spec : {M : Type 1} → statement M
-answered-spec = tie.close (tie.spec chosen-requires runs-requires returns)
+answered-spec =
+    tie.close
+    (tie.spec
+    chosen-requires
+    runs-requires
+    returns)

@@ -1,49 +1,17 @@
--- Rows as bytes are as good as those handed over; 4 is a tick, and a larger number no event.
-use mathlib.Core.Path.{_∙_}
-use native.Mathlib.Omega.{arith}
-use Rattle.step.proofs.Answering.{own-lent}
-use Rattle.step.proofs.Narrowing.{narrowed, tick-kind, unknown-kind}
+-- The clocks and the columns of a state are the state.
+use Rattle.step.proofs.Answering.{outcome-by}
 use borrow.Author.Needs.{needs}
 use Rattle.step.proofs.event.stepped.Statement.{statement}
 use Rattle.step.proofs.event.stepped.Tie as tie
 
-tick-requires : tie.Need-tick-requires
-tick-requires c κs = search needs
+stepped-in-requires : tie.Need-stepped-in-requires
+stepped-in-requires c κs = search needs
 
-cast-at-rows : tie.Need-cast-at-rows
-cast-at-rows c = search needs
-
-narrow-requires : tie.Need-narrow-requires
-narrow-requires c κs = search needs
-
-narrow-requires-2 : tie.Need-narrow-requires-2
-narrow-requires-2 c κs = search needs
-
-at-rows-requires : tie.Need-at-rows-requires
-at-rows-requires c κs = search needs
-
-answered-requires : tie.Need-answered-requires
-answered-requires c κs = search needs
+state-with-requires : tie.Need-state-with-requires
+state-with-requires c κs = search needs
 
 returns : tie.Need-returns
-returns c = λ p L. c .tick .ensures p L ∙ tick-kind p _ _ _ _ (c .before .match .keys1)
-
-returns-2 : tie.Need-returns-2
-returns-2 c = λ p L. c .at-rows .ensures p L ∙ narrowed p _ (L .accepted) _ _ _ _ _ (omega arith) (c .before .before .narrow .ensures) (c .before .narrow2 .ensures)
-
-returns-3 : tie.Need-returns-3
-returns-3 c = λ p L. c .answered .ensures p (own-lent p _ _ _ L) ∙ unknown-kind p _ _ _ _ (omega (arith, c .before .before .match .rest .1))
+returns c = λ p l. outcome-by _ _ _ _ _ _ _ (c .state-with .ensures) (c .before .before .stepped-in .ensures p l)
 
 pub stepped-spec : {M : Type 1} → statement M
-stepped-spec =
-    tie.close
-    (tie.spec
-    tick-requires
-    cast-at-rows
-    narrow-requires
-    narrow-requires-2
-    at-rows-requires
-    answered-requires
-    returns
-    returns-2
-    returns-3)
+stepped-spec = tie.close (tie.spec stepped-in-requires state-with-requires returns)

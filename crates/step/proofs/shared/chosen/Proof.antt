@@ -8,9 +8,13 @@ choose-requires : tie.Need-choose-requires
 choose-requires c κs = search needs
 
 returns : tie.Need-returns
-returns c = λ p L.
-    let found = c .choose .ensures p _ (choice-lent p _ _ _ L) in
+returns c = λ p refill used waits l.
+    let found = c .choose .ensures p _ (choice-lent p _ _ _ l) in
     record { subsystem = found .0; task = found .1 }
 
 pub chosen-spec : {M : Type 1} → statement M
-chosen-spec = tie.close (tie.spec choose-requires returns)
+chosen-spec =
+    tie.close
+    (tie.spec
+    choose-requires
+    returns)

@@ -16,8 +16,14 @@ with-left-requires c κs = search needs
 
 returns : tie.Need-returns
 unfolding charged leftOf
-returns c = rw (← c .before .before .left-at .ensures, ← c .before .one-charged .ensures) (c .with-left .ensures)
+returns c = λ conditions waits counts held.
+    rw (← c .before .before .left-at .ensures, ← c .before .one-charged .ensures) (c .with-left .ensures conditions waits counts held)
 
 pub charged-spec : {M : Type 1} → statement M
 charged-spec =
-    tie.close (tie.spec left-at-requires one-charged-requires with-left-requires returns)
+    tie.close
+    (tie.spec
+    left-at-requires
+    one-charged-requires
+    with-left-requires
+    returns)

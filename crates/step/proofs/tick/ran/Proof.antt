@@ -3,6 +3,7 @@ use mathlib.Core.Path.{sym, _∙_}
 use native.Mathlib.Omega.{arith}
 use borrow.Author.Tests.{not-true, not-false}
 use Rattle.state.specs.State.{usedOf}
+use Rattle.state.proofs.CodeLent.{task-reads}
 use Rattle.step.proofs.Lending.{tasks-lent, owner-lent, section-lent}
 use Rattle.step.proofs.Charged.{ran-nobody}
 use Rattle.step.proofs.Parts.{ran-out, ran-in}
@@ -11,26 +12,29 @@ use Rattle.step.proofs.tick.ran.Statement.{statement}
 use Rattle.step.proofs.tick.ran.Tie as tie
 
 returns : tie.Need-returns
-returns c = λ p R h. sym (ran-nobody p _ _ (omega (arith, tasks-lent p _ _ R, c .if1 .taken)))
+returns c = λ p R z h. sym (ran-nobody p _ _ (omega (arith, tasks-lent p _ _ R, c .if1 .taken)))
 
-task-of-requires : tie.Need-task-of-requires
-task-of-requires c κs = search needs
+task-at-requires : tie.Need-task-at-requires
+task-at-requires c κs = search needs
 
 started-requires : tie.Need-started-requires
 started-requires c κs = search needs
 
-with-task-requires : tie.Need-with-task-requires
-with-task-requires c κs = search needs
+put-task-requires : tie.Need-put-task-requires
+put-task-requires c κs = search needs
 
 in-section-requires : tie.Need-in-section-requires
 in-section-requires c κs = search needs
 
 returns-2 : tie.Need-returns-2
-returns-2 c = λ p R h.
-    let i = c .before in
-    let w = i .before .before .before .before in
-    let out = sym (section-lent p _ _ R _) ∙ sym (i .in-section .ensures) ∙ not-true (i .in-section .result) (c .if2 .taken) in
-    ran-out p _ _ _ _ (w .before .before .task-of .ensures) (w .before .started .ensures) (omega (arith, tasks-lent p _ _ R, w .before .before .before .if1 .left)) _ (w .with-task .ensures) out
+returns-2 c = λ p R z h.
+    let n = c .before in
+    let u = n .before .before .before .before in
+    let s = u .before .before .before .before .before in
+    let t = s .before in
+    let i = t .before .before .before .before .before in
+    let out = sym (section-lent p _ _ R _) ∙ sym (n .in-section .ensures) ∙ not-true (n .in-section .result) (c .if2 .taken) in
+    ran-out p _ _ _ _ (t .task-at .ensures ∙ task-reads _ _) (s .started .ensures) (omega (arith, tasks-lent p _ _ R, i .if1 .left)) _ (u .put-task .ensures _ z _) out
 
 byte-at-requires : tie.Need-byte-at-requires
 byte-at-requires c κs = search needs
@@ -49,25 +53,28 @@ with-used-requires c κs = search needs
 
 returns-3 : tie.Need-returns-3
 unfolding usedOf
-returns-3 c = λ p R h.
+returns-3 c = λ p R z h.
     let m = c .before in
-    let n = m .before in
-    let o = n .before .before .before .before in
+    let w = m .before in
+    let o = w .before .before .before .before in
     let j = o .before .before .before .before in
-    let i = j .before in
-    let w = i .before .before .before .before in
-    let inside = sym (section-lent p _ _ R _) ∙ sym (i .in-section .ensures) ∙ not-false (i .in-section .result) (j .if2 .left) in
-    ran-in p _ _ _ _ (w .before .before .task-of .ensures) (w .before .started .ensures) (omega (arith, tasks-lent p _ _ R, w .before .before .before .if1 .left)) _ _ _ _ _
-    (w .with-task .ensures) inside (o .byte-at .ensures ∙ owner-lent p _ _ R _) (n .word-at .ensures) (m .one-more .ensures) (c .with-used .ensures) h
+    let n = j .before in
+    let u = n .before .before .before .before in
+    let s = u .before .before .before .before .before in
+    let t = s .before in
+    let i = t .before .before .before .before .before in
+    let inside = sym (section-lent p _ _ R _) ∙ sym (n .in-section .ensures) ∙ not-false (n .in-section .result) (j .if2 .left) in
+    ran-in p _ _ _ _ (t .task-at .ensures ∙ task-reads _ _) (s .started .ensures) (omega (arith, tasks-lent p _ _ R, i .if1 .left)) _ _ _ _ _
+    (u .put-task .ensures _ z _) inside (o .byte-at .ensures ∙ owner-lent p _ _ R _) (w .word-at .ensures) (m .one-more .ensures) (c .with-used .ensures _ _ _ _) h
 
 pub ran-spec : {M : Type 1} → statement M
 ran-spec =
     tie.close
     (tie.spec
     returns
-    task-of-requires
+    task-at-requires
     started-requires
-    with-task-requires
+    put-task-requires
     in-section-requires
     returns-2
     byte-at-requires

@@ -11,7 +11,12 @@ refilled-refill-requires : tie.Need-refilled-refill-requires
 refilled-refill-requires c κs = search needs
 
 returns : tie.Need-returns
-returns c = λ p R. refilled-is p _ _ R _ _ _ (c .before .refilled-left .ensures) (c .refilled-refill .ensures)
+returns c = λ p conditions waits counts held R. refilled-is p _ _ R _ _ _ (c .before .refilled-left .ensures) (c .refilled-refill .ensures)
 
 pub refilled-spec : {M : Type 1} → statement M
-refilled-spec = tie.close (tie.spec refilled-left-requires refilled-refill-requires returns)
+refilled-spec =
+    tie.close
+    (tie.spec
+    refilled-left-requires
+    refilled-refill-requires
+    returns)
