@@ -4,8 +4,10 @@ use crate::lines::line_in;
 use crate::lines::line_step;
 use line::Filled;
 use plan::Plan;
+use state::Clocks;
 use state::State;
 use state::beginning::fresh;
+use state::state_with;
 use step::Rows;
 use text::find;
 ghost use mathlib.Core.Path.{_≡_};
@@ -192,8 +194,8 @@ fn is_roomy(number: u32, room: usize, fill: usize) -> bool
     128 <= room - fill
 }
 
-// Whole lines from a place of a piece on, read where they lie, while no byte is kept and the buffer is roomy. No line is asked whether it had room, so
-// that what the others need for that is left to feed_line.
+// Whole lines from a place of a piece on, read where they lie, while no byte is kept and the buffer is roomy. The columns of the tasks are lent from line
+// to line, and no state is copied: only a line that may have no room needs the state before it, and such a line is left to feed_line.
 fn feed_roomy(
     rows: Rows,
     lengths: &[u16],
@@ -215,7 +217,15 @@ fn feed_roomy(
             fill,
         };
     }
-    let mut state = s.state;
+    let first = s.state;
+    let left = first.left;
+    let refill = first.refill;
+    let used = first.used;
+    let mut clocks = Clocks { left, refill, used };
+    let mut conditions = first.conditions;
+    let mut waits = first.waits;
+    let mut counts = first.counts;
+    let mut held = first.held;
     let mut number = s.number;
     let mut place = at;
     let mut filled = fill;
@@ -225,21 +235,25 @@ fn feed_roomy(
         let l = line_in(
             rows,
             lengths,
-            state,
+            clocks,
+            &mut conditions,
+            &mut waits,
+            &mut counts,
+            &mut held,
             number,
             &piece[place..past],
             out,
             filled,
         );
-        let next = l.state;
-        state = next;
+        let next = l.clocks;
+        clocks = next;
         filled = l.fill;
         number += 1;
         place = past;
         end = find(piece, place, b'\n');
     }
     Fed {
-        stream: at_line(state, number),
+        stream: at_line(state_with(clocks, conditions, waits, counts, held), number),
         taken: place,
         fill: filled,
     }
