@@ -18,6 +18,8 @@ pub mod LineLoop
 pub mod RoomyLines
 pub mod OutTwice
 pub mod FedFacts
+pub mod ByteNumbers
+pub mod RoomTakes
 pub mod PutLines
 pub mod Starting
 pub mod RunText

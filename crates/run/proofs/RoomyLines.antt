@@ -30,7 +30,7 @@ use Rattle.run.proofs.WholeLines.{end-there}
 use Rattle.run.proofs.LineLoop.{place-on}
 
 module _ (out : List ℕ) (fill : ℕ) (t : List ℕ) where
-  fits : fill + length t ≤ length out → hasRoom out fill t ≡ true
+  pub fits : fill + length t ≤ length out → hasRoom out fill t ≡ true
   unfolding hasRoom
   fits h = le-leb (length t) (length (drop fill out)) (omega (arith, length-drop fill out))
 
