@@ -1,14 +1,16 @@
 -- "Events": what each test of a refusal says, where it is made on the columns that are lent, is what the definition says.
-use mathlib.Core.Path.{_≡_, sym}
+use mathlib.Core.Path.{_≡_, refl, sym}
 use mathlib.Core.Bool.{false, not, _||_}
 use mathlib.Core.List.{List, []}
-use Prim.Native.Nat.{ℕ, _-_, _≤_}
+use mathlib.Core.Logic.{⊎-elim}
+use Prim.Native.Nat.{ℕ, zero, suc, _≤_, _<_}
 use native.Mathlib.Omega.{arith}
 use lib.Dec.{leb, eqb}
 use lib.ListN.{List·getD-eq-default}
 use Rattle.plan.specs.declared.Plan.{Plan}
 use Rattle.plan.specs.Plan.{isGlobal, lengthOf, declares}
 use Rattle.plan.specs.Lent.{lent}
+use Rattle.plan.proofs.Facts.{row-there}
 use Rattle.state.specs.declared.Task.{Task}
 use Rattle.state.specs.declared.State.{State}
 use Rattle.state.specs.State.{mostHeld, isIdle, lastHeld, inSection, holds}
@@ -16,11 +18,9 @@ use Rattle.step.specs.Refusals.{noSuchRow, notIdle, notRunning, notDecla
 use Rattle.step.specs.Lent.{Asked}
 
 module _ (p : Plan) (s : State) {tasks resources row k : ℕ} {kinds lengths : List ℕ} {t : Task} (A : Asked p s tasks resources kinds lengths row t k) (kind r n : ℕ) where
-  pub asked-2 : n ≤ 2 → noSuchRow (lent 0 tasks resources [] [] [] [] []) kind k r ≡ refuses p s kind k r n
+  pub asked-2 : n ≡ 2 → noSuchRow (lent 0 tasks resources [] [] [] [] []) kind k r ≡ refuses p s kind k r n
   unfolding refuses tests noSuchRow
-  asked-2 h =
-      let e : n - 2 ≡ 0 = omega arith in
-      rw (e, A .of-tasks, A .of-resources)
+  asked-2 e = rw (e, A .of-tasks, A .of-resources)
 
   pub asked-3 : n ≡ 3 → not (eqb (t .condition) 0) ≡ refuses p s kind k r n
   unfolding refuses tests notIdle isIdle
@@ -50,17 +50,24 @@ module _ (p : Plan) (s : State) {tasks resources row k : ℕ} {kinds lengths : L
   unfolding refuses tests fifthHeld
   asked-9 e = rw (e, A .of-task)
 
-  pub asked-other : 10 ≤ n → false ≡ refuses p s kind k r n
-  unfolding refuses tests
-  asked-other h = sym (List·getD-eq-default (tests p s kind k r) false {n = n - 2} (omega arith))
-
 -- a number that is no refusal
 
-past-five : (n : ℕ) → 3 ≤ n → (n ≡ 3 → ⊥) → (n ≡ 4 → ⊥) → (n ≡ 5 → ⊥) → 6 ≤ n
-past-five n h a b c = omega arith
+past-five : (n : ℕ) → 2 ≤ n → (n ≡ 2 → ⊥) → (n ≡ 3 → ⊥) → (n ≡ 4 → ⊥) → (n ≡ 5 → ⊥) → 6 ≤ n
+past-five n h a b c d = omega arith
 
-past-six : (n : ℕ) → 6 ≤ n → (n ≡ 6 → ⊥) → (n ≡ 7 → ⊥) → (n ≡ 8 → ⊥) → (n ≡ 9 → ⊥) → 10 ≤ n
-past-six n h a b c d = omega arith
+past-nine : (n : ℕ) → 6 ≤ n → (n ≡ 6 → ⊥) → (n ≡ 7 → ⊥) → (n ≡ 8 → ⊥) → (n ≡ 9 → ⊥) → 10 ≤ n
+past-nine n h a b c d = omega arith
 
-pub past-nine : (n : ℕ) → 3 ≤ n → (n ≡ 3 → ⊥) → (n ≡ 4 → ⊥) → (n ≡ 5 → ⊥) → (n ≡ 6 → ⊥) → (n ≡ 7 → ⊥) → (n ≡ 8 → ⊥) → (n ≡ 9 → ⊥) → 10 ≤ n
-past-nine n h a b c d e f g = past-six n (past-five n h a b c) d e f g
+module _ (p : Plan) (s : State) (kind k r : ℕ) where
+  asked-low : (n : ℕ) → n < 2 → false ≡ refuses p s kind k r n
+  unfolding refuses tests
+  asked-low zero h = refl
+  asked-low (suc zero) h = refl
+  asked-low (suc (suc n)) h = absurd (omega arith)
+
+  asked-high : (n : ℕ) → 10 ≤ n → false ≡ refuses p s kind k r n
+  unfolding refuses tests
+  asked-high n h = sym (List·getD-eq-default (tests p s kind k r) false {n = n} (omega arith))
+
+  pub asked-other : (n : ℕ) → (n ≡ 2 → ⊥) → (n ≡ 3 → ⊥) → (n ≡ 4 → ⊥) → (n ≡ 5 → ⊥) → (n ≡ 6 → ⊥) → (n ≡ 7 → ⊥) → (n ≡ 8 → ⊥) → (n ≡ 9 → ⊥) → false ≡ refuses p s kind k r n
+  asked-other n a b c d e f g h = ⊎-elim (asked-low n) (λ l. asked-high n (past-nine n (past-five n l a b c d) e f g h)) (row-there n 2)

@@ -1,7 +1,7 @@
 -- "Events": the refusals 2 to 9, and for each kind of event the order in which they are tried.
 use mathlib.Core.Bool.{Bool, true, false, not, _&&_, _||_}
 use mathlib.Core.List.{List, [], _∷_}
-use Prim.Native.Nat.{ℕ, _-_}
+use Prim.Native.Nat.{ℕ}
 use lib.Dec.{leb, ltb, eqb}
 use lib.ListN.{getD}
 use Rattle.plan.specs.declared.Plan.{Plan}
@@ -76,10 +76,12 @@ stillHolding s k = leb 1 (taskAt s k .count)
 unfoldable pub fifthHeld : State → ℕ → Bool
 fifthHeld s k = leb mostHeld (taskAt s k .count)
 
--- the tests of the refusals 2 to 9
+-- the tests of the numbers 0 to 9: 0 and 1 are answers and no refusals
 unfoldable pub tests : Plan → State → ℕ → ℕ → ℕ → List Bool
 tests p s kind k r =
-    noSuchRow p kind k r
+    false
+    ∷ false
+    ∷ noSuchRow p kind k r
     ∷ notIdle s k
     ∷ notRunning p s k
     ∷ notDeclared p k r
@@ -91,7 +93,7 @@ tests p s kind k r =
 
 -- refusal n applies
 unfoldable pub refuses : Plan → State → ℕ → ℕ → ℕ → ℕ → Bool
-refuses p s kind k r n = getD (tests p s kind k r) (n - 2) false
+refuses p s kind k r n = getD (tests p s kind k r) n false
 
 -- the first of some refusals that applies; 0 if none does
 unfoldable pub firstRefusal : (ℕ → Bool) → List ℕ → ℕ

@@ -81,7 +81,7 @@ fn not_last(t: Task, r: u8) -> bool
     last_held(t) != r
 }
 
-// Refusal n applies to the event of task k, which is t, where running is the row that runs. The definition reads a number below 2 as 2.
+// Refusal n applies to the event of task k, which is t, where running is the row that runs.
 fn refuses<'a>(
     tasks: u8,
     resources: u8,
@@ -97,7 +97,7 @@ fn refuses<'a>(
     ensures { λ x. ⌜ ((p : Plan) (s : State) → Asked p s tasks resources (now (kinds .entry)) (now (lengths .entry)) running t k → x ≡ refuses p s kind k r n) ⌝ }
 {
     match n {
-        0..=2 => no_such_row(tasks, resources, kind, k, r),
+        2 => no_such_row(tasks, resources, kind, k, r),
         3 => t.condition != 0,
         4 => running != k,
         5 => !declares(lengths, k, r),
