@@ -12,4 +12,5 @@ pub mod Behind
 pub mod Names
 pub mod Whole
 pub mod Long
+pub mod Short
 pub mod Reported

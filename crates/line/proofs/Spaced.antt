@@ -1,7 +1,7 @@
 -- Laws of a printed line, from its last field to its first: the last stands in front of the line feed, each other in front of a space.
 use mathlib.Core.Path.{_≡_, _∙_}
 use mathlib.Core.List.{List, [], _∷_, _++_, append-assoc, append-nil}
-use Prim.Native.Nat.{ℕ, suc, _-_, _^_, _≤_, _<_}
+use Prim.Native.Nat.{ℕ, suc, _+_, _-_, _^_, _≤_, _<_}
 use native.Mathlib.Omega.{arith}
 use lib.ListN.{length, take, drop, length-append, length-drop, drop-of-length-le}
 use lib.Seq.{take-all}
@@ -32,6 +32,15 @@ unfolding spaced
 spaced-some [] = omega arith
 spaced-some (f ∷ []) = rw length-append (omega arith)
 spaced-some (f ∷ g ∷ fs) = rw length-append (omega arith)
+
+-- its length: a field and what stands behind it, and the last field
+pub more-length : (f g : List ℕ) (fs : List (List ℕ)) → length (spaced (f ∷ g ∷ fs)) ≡ length f + 1 + length (spaced (g ∷ fs))
+unfolding spaced
+more-length f g fs = rw length-append (omega arith)
+
+pub last-length : (f : List ℕ) → length (spaced (f ∷ [])) ≡ length f + 1
+unfolding spaced
+last-length f = length-append f (10 ∷ [])
 
 -- a text at the end of the scratch, as it is lent
 pub lent : {t old new : List ℕ} {at r : ℕ} → Before t old at new r → length old ≡ at → length new ≡ length old → take (at - r) (drop r new) ≡ t

@@ -1,5 +1,5 @@
 // "The run program": the printed lines. Each is composed in a scratch of its own, from its last field to its first, and then written behind
-// the fill. The longest has 120 bytes at most: 10 digits, 3, two rows of 3, 32 rows of 2 digits and a comma, 4 spaces and the line feed.
+// the fill. The longest has 109 bytes (proofs/Short): 10 digits, 3, two rows of 3, 32 rows with 31 commas, 4 spaces and the line feed.
 use crate::Filled;
 use crate::before::byte_before;
 use crate::before::decimal_before;

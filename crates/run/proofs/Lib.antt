@@ -15,8 +15,11 @@ pub mod TakenLines
 pub mod WholeLines
 pub mod FirstLines
 pub mod LineLoop
+pub mod RoomyLines
 pub mod OutTwice
 pub mod FedFacts
+pub mod ByteNumbers
+pub mod RoomTakes
 pub mod PutLines
 pub mod Starting
 pub mod RunText

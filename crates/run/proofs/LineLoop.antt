@@ -14,7 +14,7 @@ use Rattle.step.specs.Lent.{Lent}
 use Rattle.line.specs.Filled.{hasRoom, outAfter}
 use Rattle.run.specs.declared.stream.Fed.{Fed}
 use Rattle.run.specs.Stream.{At, fed, fedPrinted}
-use Rattle.run.specs.Fed.{Taken, atOf, takenOf, nothing, behind, lineTaken, linesTaken, pieceTaken, firstLine}
+use Rattle.run.specs.Fed.{Taken, atOf, takenOf, nothing, behind, lineTaken, linesTaken, fromPlace, pieceTaken, firstLine}
 use Rattle.run.proofs.TakenLines.{taken-room, taken-none}
 use Rattle.run.proofs.FirstLines.{first-some, lines-first, line-taken-lent}
 
@@ -60,10 +60,7 @@ pub behind-none : (t : Taken) → behind 0 t ≡ t
 unfolding behind
 behind-none t = ap (λ (k : ℕ). record { at = t .at; bytes = k; fill = t .fill; out = t .out }) (zero-add (t .bytes))
 
--- what is left of a piece from a place on
-unfoldable pub fromPlace : Plan → At → List ℕ → ℕ → List ℕ → ℕ → Taken
-fromPlace p x piece at out fill = behind at (linesTaken p x (lines (drop at piece)) out fill)
-
+-- what is left of a piece from its start on is all of it
 pub place-start : (p : Plan) (x : At) (piece out : List ℕ) (fill : ℕ) → fromPlace p x piece 0 out fill ≡ pieceTaken p x piece out fill
 unfolding fromPlace pieceTaken
 place-start p x piece out fill = behind-none (linesTaken p x (lines piece) out fill)

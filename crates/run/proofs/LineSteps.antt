@@ -26,9 +26,9 @@ use Rattle.run.specs.declared.Lined.{Lined}
 use Rattle.run.specs.Lined.{linedBy, lined, linedOut}
 
 -- kind 5 is no kind
-pub unknown : (p : Plan) (s : State) → stepped p s 5 0 0 ≡ answered p s 11
+pub unknown : (p : Plan) (s : State) (kind : ℕ) → kind ≡ 5 → stepped p s kind 0 0 ≡ answered p s 11
 unfolding stepped refusal firstRefusal orderTable done
-unknown p s = refl
+unknown p s kind e = rw e
 
 -- what is given back: with room the outcome, without it nothing but 33
 module _ (s : State) (n : ℕ) (o : Outcome) (out : List ℕ) (fill : ℕ) where

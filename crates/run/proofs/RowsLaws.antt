@@ -73,6 +73,6 @@ module _ (text : List ℕ) {r : Reading} (e : r ≡ reading text) where
   unfolding reportedLines
   lines-rows t = sym (own-rows t) ∙ ap reportOf e
 
-  pub lines-refused : {n b : ℕ} → hasMargins r ≡ false → n ≡ number (r .verdict) → b ≡ beside (r .verdict) → printedRefusal n b ∷ [] ≡ reportedLines text
+  pub lines-refused : hasMargins r ≡ false → printedRefusal (number (r .verdict)) (beside (r .verdict)) ∷ [] ≡ reportedLines text
   unfolding reportedLines
-  lines-refused t f g = rw (f, g) (sym (own-refused t) ∙ ap reportOf e)
+  lines-refused t = sym (own-refused t) ∙ ap reportOf e

@@ -6,7 +6,7 @@ use Prim.Native.Nat.{ℕ, _+_, _*_, _^_, _≤_, _<_}
 use native.Mathlib.Nat.{div-le-self, lt-of-le-of-lt}
 use native.Mathlib.Omega.{arith}
 use lib.Dec.{ltb, leb}
-use lib.ListN.{length, length-append}
+use lib.ListN.{length}
 use mir.Syntax.{w64}
 use mir.Val.{SFits}
 use mir.Facts.{toZ-pos}
@@ -18,20 +18,12 @@ use Rattle.plan.specs.declared.Plan.{Plan}
 use Rattle.plan.specs.Plan.{period, budget, owner, isGlobal, lengthOf, declares, level, place}
 use Rattle.plan.specs.Admission.{blocking, demand, margin}
 use Rattle.plan.proofs.Bounds.{product, difference-fits}
-use Rattle.line.specs.Printed.{spaced, printedRefusal}
+use Rattle.line.specs.Printed.{printedRefusal}
 use Rattle.line.specs.Report.{signed, reportLine}
 use Rattle.line.proofs.Decimal.{decimal-length}
 use Rattle.line.proofs.Signs.{signed-length}
+use Rattle.line.proofs.Spaced.{more-length, last-length}
 use Rattle.run.proofs.SmallPlan.{Small}
-
--- a field and what stands behind it
-more-length : (f g : List ℕ) (fs : List (List ℕ)) → length (spaced (f ∷ g ∷ fs)) ≡ length f + 1 + length (spaced (g ∷ fs))
-unfolding spaced
-more-length f g fs = rw length-append (omega arith)
-
-last-length : (f : List ℕ) → length (spaced (f ∷ [])) ≡ length f + 1
-unfolding spaced
-last-length f = length-append f (10 ∷ [])
 
 -- the word plan, two digits, five digits
 pub refusal-short : (n b : ℕ) → n ≤ 30 → b ≤ 16385 → length (printedRefusal n b) ≤ 128

@@ -70,6 +70,12 @@ ended-of (Parted.on {x = x} e p) h = more (ended-of p (omega arith))
 ended : (l : List ℕ) → until lineFeed l + 1 ≡ length l → Ended l
 ended l h = ended-of (parted lineFeed l (omega arith)) (omega arith)
 
+pub printed-feed : (p : Plan) (x : At) (l : List ℕ) → until lineFeed l + 1 ≡ length l → fedPrinted p x l ≡ linePrinted p (keeping x l)
+printed-feed p x l h = go (ended l h)
+  where
+    go : Ended l → fedPrinted p x l ≡ linePrinted p (keeping x l)
+    go r = rw (r .is) (printed-ended p x (r .before))
+
 -- a line that lies whole is read where it lies
 module _ (p : Plan) (x : At) {l : List ℕ} (w : Whole lineFeed l) (none : x .kept ≡ []) where
   done-there : lineDone p (wholeLine x (l ++ (lineFeed ∷ []))) ≡ lineDone p (keeping x (l ++ (lineFeed ∷ [])))

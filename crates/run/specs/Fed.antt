@@ -3,7 +3,7 @@
 use mathlib.Core.Bool.{Bool, true, false}
 use mathlib.Core.List.{List, [], _∷_}
 use Prim.Native.Nat.{ℕ, _+_, _≤_}
-use lib.ListN.{length, take}
+use lib.ListN.{length, take, drop}
 use Rattle.text.specs.Lines.{lineFeed, until, lines}
 use Rattle.plan.specs.declared.Plan.{Plan}
 use Rattle.state.specs.declared.State.{State}
@@ -65,6 +65,10 @@ linesTaken p x (l ∷ ls) out fill =
       | true ↦ behind (length l) (linesTaken p (fed p x l) ls (outAfter out fill (fedPrinted p x l)) (fill + length (fedPrinted p x l)))
       | false ↦ nothing x out fill
     ]
+
+-- what is left of a piece from a place on
+unfoldable pub fromPlace : Plan → At → List ℕ → ℕ → List ℕ → ℕ → Taken
+fromPlace p x piece at out fill = behind at (linesTaken p x (lines (drop at piece)) out fill)
 
 -- a piece, line by line
 unfoldable pub pieceTaken : Plan → At → List ℕ → List ℕ → ℕ → Taken

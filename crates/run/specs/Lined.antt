@@ -1,4 +1,5 @@
 -- "The run program", one line: an event line on a state, with its printed line behind the fill of a buffer. 33 keeps state and buffer.
+use mathlib.Core.Path.{_≡_}
 use mathlib.Core.Bool.{Bool, true, false}
 use mathlib.Core.List.{List}
 use Prim.Native.Nat.{ℕ, _+_}
@@ -26,3 +27,9 @@ lined p s n line out fill = linedBy s n (lineGives p s line) out fill
 -- the buffer then
 unfoldable pub linedOut : Plan → State → ℕ → List ℕ → List ℕ → ℕ → List ℕ
 linedOut p s n line out fill = outAfter out fill (printed n (lineGives p s line))
+
+-- the n-th event line with room for its printed line: the state then, the fill behind that line, and the buffer
+pub record LinePut (p : Plan) (s : State) (n : ℕ) (line out : List ℕ) (fill : ℕ) (next : State) (end : ℕ) (after : List ℕ) : Type 0 where
+  pub state : next ≡ lineGives p s line .state
+  pub filled : end ≡ fill + length (printed n (lineGives p s line))
+  pub written : after ≡ outAfter out fill (printed n (lineGives p s line))

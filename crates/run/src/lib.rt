@@ -1,5 +1,6 @@
 // The run program and the admission report as library calls over slices, in whole and in pieces.
 mod lines;
+mod refusal;
 pub mod report;
 pub mod stream;
 mod whole;

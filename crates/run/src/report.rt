@@ -1,12 +1,11 @@
 // The admission report of a plan text.
 ghost use mathlib.Core.Path.{_≡_};
-ghost use mathlib.Core.List.{[], _∷_};
-ghost use Rattle.line.specs.Printed.{printedRefusal};
 ghost use Rattle.line.specs.Filled.{fillAfter, outAfter};
 ghost use Rattle.line.specs.Report.{reportLine};
 ghost use Rattle.run.specs.AsFar.{asFar, asFarOut};
 ghost use Rattle.run.specs.Reporting.{reportFrom, reportedLines};
 use crate::Ran;
+use crate::refusal::put_refusal;
 use line::Filled;
 use plan::Plan;
 use plan::tables::word_at;
@@ -45,19 +44,6 @@ fn report_rows(p: Plan, out: &mut [u8], fill: usize) -> Ran
     }
 }
 
-// The line of a refused plan.
-fn report_refusal(number: u32, beside: u32, out: &mut [u8], fill: usize) -> Ran
-    ensures { λ r. ⌜ (r ≡ asFar (printedRefusal number beside ∷ []) (now (out .entry)) fill) × (now (out .exit) ≡ asFarOut (printedRefusal number beside ∷ []) (now (out .entry)) fill) ⌝ }
-{
-    let Filled::Fill(next) = line::print_refusal(out, fill, number, beside) else {
-        return Ran { fill, whole: false };
-    };
-    Ran {
-        fill: next,
-        whole: true,
-    }
-}
-
 // The report of a plan text behind the fill of a buffer: a line a row, or the refusal of a plan that has no margins.
 pub fn report(text: &[u8], out: &mut [u8], fill: usize) -> Ran
     ensures { λ r. ⌜ (r ≡ asFar (reportedLines (now (text .entry))) (now (out .entry)) fill) × (now (out .exit) ≡ asFarOut (reportedLines (now (text .entry))) (now (out .entry)) fill) ⌝ }
@@ -65,12 +51,7 @@ pub fn report(text: &[u8], out: &mut [u8], fill: usize) -> Ran
     let r = reader::read(text);
     let v = r.verdict;
     if !reader::numbers::has_margins(v) {
-        return report_refusal(
-            reader::numbers::number(v),
-            reader::numbers::beside(v),
-            out,
-            fill,
-        );
+        return put_refusal(v, out, fill);
     }
     let p = r.plan;
     report_rows(p, out, fill)

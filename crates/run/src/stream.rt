@@ -1,13 +1,17 @@
 // "The run program": an event file that comes in pieces, cut anywhere. A line of any length takes no more memory than 20 bytes: no event line is
 // longer. A line that lies whole in a piece is read where it lies.
+use crate::lines::line_in;
 use crate::lines::line_step;
 use line::Filled;
 use plan::Plan;
+use state::Clocks;
 use state::State;
 use state::beginning::fresh;
+use state::state_with;
 use step::Rows;
 use text::find;
 ghost use mathlib.Core.Path.{_≡_};
+ghost use mathlib.Core.Bool.{true};
 ghost use mathlib.Core.List.{_++_};
 ghost use Prim.Native.Nat.{ℕ, _+_, _≤_, min};
 ghost use lib.ListN.{length, take};
@@ -16,8 +20,9 @@ ghost use Rattle.plan.specs.declared.Plan.{Plan};
 ghost use Rattle.step.specs.Lent.{Lent};
 ghost use Rattle.line.specs.declared.Filled.the-variants.{Fill};
 ghost use Rattle.line.specs.Filled.{fillAfter, outAfter};
+ghost use Rattle.line.specs.Run.{mostLines};
 ghost use Rattle.run.specs.Stream.{mostKept, start, lineDone, linePrinted, endPrinted};
-ghost use Rattle.run.specs.Fed.{keptOf, atOf, takenOf, Within, takenTo, lineTaken, pieceTaken, firstLine, lineStart, wholeLine};
+ghost use Rattle.run.specs.Fed.{keptOf, atOf, takenOf, Within, takenTo, lineTaken, fromPlace, pieceTaken, firstLine, lineStart, wholeLine};
 
 // The first bytes of a line that is not whole yet. A length past 20 means 20.
 pub struct Kept {
@@ -176,7 +181,86 @@ fn feed_line(
     }
 }
 
-// A piece of an event file, line by line, up to the first line whose printed line has no room.
+// The next line is answered, and the rest of the buffer has room for any printed line: 128 bytes (line/proofs/Short).
+fn is_roomy(number: u32, room: usize, fill: usize) -> bool
+    ensures { λ r. ⌜ (r ≡ true → (number ≤ mostLines) × (fill + 128 ≤ room)) ⌝ }
+{
+    if 9999999 < number {
+        return false;
+    }
+    if room < fill {
+        return false;
+    }
+    128 <= room - fill
+}
+
+// Whole lines from a place of a piece on, read where they lie, while no byte is kept and the buffer is roomy. The columns of the tasks are lent from line
+// to line, and no state is copied: only a line that may have no room needs the state before it, and such a line is left to feed_line.
+fn feed_roomy(
+    rows: Rows,
+    lengths: &[u16],
+    s: Stream,
+    piece: &[u8],
+    at: usize,
+    out: &mut [u8],
+    fill: usize,
+) -> Fed
+    requires { ⌜ at ≤ length (now piece) ⌝ }
+    ensures { λ r. ⌜ (at ≤ r .taken) × Within (length (now (piece .entry))) (length (now (out .entry))) fill r × ((p : Plan) → Lent p (s .state) rows (now (lengths .entry)) → Lent p (r .stream .state) rows (now (lengths .entry))
+        × (fromPlace p (atOf (r .stream)) (now (piece .entry)) (r .taken) (now (out .exit)) (r .fill) ≡ fromPlace p (atOf s) (now (piece .entry)) at (now (out .entry)) fill)) ⌝ }
+{
+    let kept = s.kept;
+    if size_of(kept) != 0 {
+        return Fed {
+            stream: s,
+            taken: at,
+            fill,
+        };
+    }
+    let first = s.state;
+    let left = first.left;
+    let refill = first.refill;
+    let used = first.used;
+    let mut clocks = Clocks { left, refill, used };
+    let mut conditions = first.conditions;
+    let mut waits = first.waits;
+    let mut counts = first.counts;
+    let mut held = first.held;
+    let mut number = s.number;
+    let mut place = at;
+    let mut filled = fill;
+    let mut end = find(piece, at, b'\n');
+    while end < piece.len() && is_roomy(number, out.len(), filled) {
+        let past = end + 1;
+        let l = line_in(
+            rows,
+            lengths,
+            clocks,
+            &mut conditions,
+            &mut waits,
+            &mut counts,
+            &mut held,
+            number,
+            &piece[place..past],
+            out,
+            filled,
+        );
+        let next = l.clocks;
+        clocks = next;
+        filled = l.fill;
+        number += 1;
+        place = past;
+        end = find(piece, place, b'\n');
+    }
+    Fed {
+        stream: at_line(state_with(clocks, conditions, waits, counts, held), number),
+        taken: place,
+        fill: filled,
+    }
+}
+
+// A piece of an event file, line by line, up to the first line whose printed line has no room: the quick way as far as it goes, then one line that it
+// leaves.
 pub fn feed(
     rows: Rows,
     lengths: &[u16],
@@ -191,18 +275,20 @@ pub fn feed(
     let mut at = 0;
     let mut filled = fill;
     while at < piece.len() {
-        let f = feed_line(rows, lengths, stream, &piece[at..], out, filled);
+        let quick = feed_roomy(rows, lengths, stream, piece, at, out, filled);
+        let place = quick.taken;
+        if place == piece.len() {
+            return quick;
+        }
+        let s = quick.stream;
+        let f = feed_line(rows, lengths, s, &piece[place..], out, quick.fill);
         if f.taken == 0 {
-            return Fed {
-                stream,
-                taken: at,
-                fill: filled,
-            };
+            return quick;
         }
         let next = f.stream;
         stream = next;
         filled = f.fill;
-        at += f.taken;
+        at = place + f.taken;
     }
     Fed {
         stream,

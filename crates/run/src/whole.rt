@@ -1,12 +1,8 @@
 // "The run program": a whole run, from a plan text and an event text to the printed text, as far as the buffer goes.
 use crate::Ran;
 use crate::lines::line_step;
-use line::Filled;
-use line::print_refusal;
-use reader::Verdict;
-use reader::numbers::beside;
+use crate::refusal::put_refusal;
 use reader::numbers::is_accepted;
-use reader::numbers::number;
 use reader::read;
 use state::State;
 use state::beginning::fresh;
@@ -14,31 +10,15 @@ use step::Rows;
 use step::rows_with;
 use text::find;
 ghost use mathlib.Core.Path.{_≡_};
-ghost use mathlib.Core.List.{[], _∷_};
 ghost use Prim.Native.Nat.{_+_, _<_};
 ghost use lib.ListN.{length, take, drop};
 ghost use Rattle.text.specs.Lines.{lines};
 ghost use Rattle.plan.specs.declared.Plan.{Plan};
-ghost use Rattle.reader.specs.Numbers.{number, beside};
 ghost use Rattle.step.specs.Lent.{Lent};
-ghost use Rattle.line.specs.Printed.{printedRefusal};
 ghost use Rattle.line.specs.Run.{mostLines, outcomes};
 ghost use Rattle.run.specs.AsFar.{asFar, asFarOut};
 ghost use Rattle.run.specs.Fed.{firstLine};
 ghost use Rattle.run.specs.Running.{printedLines, runLines};
-
-// A refused plan prints its refusal alone.
-fn put_refusal(v: Verdict, out: &mut [u8], fill: usize) -> Ran
-    ensures { λ r. ⌜ (r ≡ asFar (printedRefusal (number v) (beside v) ∷ []) (now (out .entry)) fill) × (now (out .exit) ≡ asFarOut (printedRefusal (number v) (beside v) ∷ []) (now (out .entry)) fill) ⌝ }
-{
-    let Filled::Fill(end) = print_refusal(out, fill, number(v), beside(v)) else {
-        return Ran { fill, whole: false };
-    };
-    Ran {
-        fill: end,
-        whole: true,
-    }
-}
 
 // Where the line at a place ends: behind its line feed, or with the text.
 fn line_end(events: &[u8], at: usize) -> usize

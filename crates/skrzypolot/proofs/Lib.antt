@@ -1,3 +1,4 @@
+pub mod FirstState
 pub mod Wrote
 pub mod InMemory
 pub mod Through

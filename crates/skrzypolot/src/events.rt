@@ -1,7 +1,12 @@
 // A run on two files. Both are opened and read from before anything is printed.
+ghost use mathlib.Core.Path.{_≡_};
+ghost use mathlib.Core.Bool.{true};
 ghost use Prim.Native.Nat.{_≤_};
 ghost use lib.ListN.{length};
 ghost use Rattle.io.specs.Counts.{Counts};
+ghost use Rattle.plan.specs.Facts.{Accepted};
+ghost use Rattle.reader.specs.Numbers.{isAccepted};
+ghost use Rattle.skrzypolot.specs.Went.{Running};
 use crate::memory::refusal_of;
 use crate::pieces::answer_end;
 use crate::pieces::answer_piece;
@@ -33,8 +38,8 @@ fn next_piece(
     piece: &mut [u8],
     out: &mut [u8],
 ) -> Going
-    requires { ⌜ Counts (g .count) (now piece) × (g .fill ≤ length (now out)) ⌝ }
-    ensures { λ r. ⌜ Counts (r .count) (now (piece .exit)) × (r .fill ≤ length (now (out .exit))) ⌝ }
+    requires { ⌜ Counts (g .count) (now piece) × (g .fill ≤ length (now out)) × (128 ≤ length (now out)) × Running (g .stream .state) rows (now lengths) ⌝ }
+    ensures { λ r. ⌜ Counts (r .count) (now (piece .exit)) × (r .fill ≤ length (now (out .exit))) × Running (r .stream .state) rows (now (lengths .entry)) ⌝ }
 {
     let s = g.stream;
     let n = g.count;
@@ -67,7 +72,7 @@ fn run_pieces(
     piece: &mut [u8],
     out: &mut [u8],
 )
-    requires { ⌜ Counts (first .count) (now piece) × (first .fill ≤ length (now out)) ⌝ }
+    requires { ⌜ Counts (first .count) (now piece) × (first .fill ≤ length (now out)) × (128 ≤ length (now out)) × Running (first .stream .state) rows (now lengths) ⌝ }
 {
     let mut g = first;
     let mut turns = u64::MAX;
@@ -96,7 +101,9 @@ fn print_refused(v: Verdict) {
 }
 
 // A plan that was read, and the event file. Its first piece is read before anything is printed, also for a refused plan.
-fn run_events(r: Reading, fd: i32, path: &[u8]) {
+fn run_events(r: Reading, fd: i32, path: &[u8])
+    requires { ⌜ (isAccepted (r .verdict) ≡ true → Accepted (r .plan)) ⌝ }
+{
     let mut piece = io::large_buffer();
     let got = read_piece(fd, path, &mut piece);
     if got.is_failed {
@@ -119,7 +126,9 @@ fn run_events(r: Reading, fd: i32, path: &[u8]) {
     run_pieces(rows, &p.lengths, first, fd, path, &mut piece, &mut out);
 }
 
-fn open_events(r: Reading, path: &[u8]) {
+fn open_events(r: Reading, path: &[u8])
+    requires { ⌜ (isAccepted (r .verdict) ≡ true → Accepted (r .plan)) ⌝ }
+{
     let fd = os::open_read(path);
     if fd < 0 {
         os::fail(path);

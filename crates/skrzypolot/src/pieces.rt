@@ -6,7 +6,7 @@ ghost use lib.ListN.{length, take};
 ghost use Rattle.plan.specs.declared.Plan.{Plan};
 ghost use Rattle.step.specs.Lent.{Lent};
 ghost use Rattle.run.specs.Fed.{atOf};
-ghost use Rattle.skrzypolot.specs.Went.{Went};
+ghost use Rattle.skrzypolot.specs.Went.{Running, Went};
 use files::write_out;
 use line::Filled;
 use run::stream::Stream;
@@ -21,8 +21,8 @@ pub struct Answered {
     pub is_failed: bool,
 }
 
-// One piece of the event file. Where a line has no room, the buffer is written out. Any line has room in an empty buffer, so that such a line is then
-// taken; the test for an empty buffer is there for the proof that the loop ends.
+// One piece of the event file. Where a line has no room, the buffer is written out. Any line has room in an empty buffer of 128 bytes (line/proofs/Short),
+// so that such a line is then taken, and only a write that failed ends a piece early.
 pub fn answer_piece(
     rows: Rows,
     lengths: &[u16],
@@ -31,8 +31,8 @@ pub fn answer_piece(
     out: &mut [u8],
     fill: usize,
 ) -> Answered
-    requires { ⌜ fill ≤ length (now out) ⌝ }
-    ensures { λ r. ⌜ r .fill ≤ length (now (out .exit)) ⌝ }
+    requires { ⌜ (fill ≤ length (now out)) × (128 ≤ length (now out)) × Running (s .state) rows (now lengths) ⌝ }
+    ensures { λ r. ⌜ (r .fill ≤ length (now (out .exit))) × Running (r .stream .state) rows (now (lengths .entry)) ⌝ }
     ensures { λ r. ⌜ ((p : Plan) → Lent p (s .state) rows (now (lengths .entry)) → r .«is_failed» ≡ false
         → Went p (atOf s) (take fill (now (out .entry))) (now (piece .entry)) (atOf (r .stream)) (take (r .fill) (now (out .exit)))) ⌝ }
 {
@@ -44,7 +44,7 @@ pub fn answer_piece(
         let next = f.stream;
         stream = next;
         if f.taken == 0 {
-            if filled == 0 || !write_out(&out[..filled]) {
+            if !write_out(&out[..filled]) {
                 return Answered {
                     stream,
                     fill: 0,

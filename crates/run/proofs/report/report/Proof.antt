@@ -11,13 +11,10 @@ returns : tie.Need-returns
 unfolding hasMargins
 returns c =
     let w = c .before .before in
-    let b = w .before .before in
-    let n = b .before in
-    let t = n .before in
+    let t = w .before .before in
     let h = t .before in
     let r = h .before in
-    rw (lines-refused (r .before .before .before .args .text .now) (r .read .ensures) (sym (h .has-margins .ensures) ∙ not-true _ (t .if1 .taken)) (n .number .ensures) (b .beside .ensures))
-    at (w .report-refusal .ensures)
+    rw (lines-refused (r .before .before .before .args .text .now) (r .read .ensures) (sym (h .has-margins .ensures) ∙ not-true _ (t .if1 .taken))) at (w .put-refusal .ensures)
 
 returns-2 : tie.Need-returns-2
 unfolding hasMargins
@@ -32,8 +29,6 @@ pub report-spec : {M : Type 1} → statement M
 report-spec =
     tie.close
     (tie.spec
-    (λ c κs. search needs)
-    (λ c κs. search needs)
     (λ c κs. search needs)
     (λ c κs. search needs)
     (λ c κs. search needs)

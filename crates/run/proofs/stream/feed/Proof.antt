@@ -1,5 +1,5 @@
 -- `run::stream::feed` meets its contract. The loop's invariant: what is left of the piece, taken from here, gives what the whole piece gives; the state
--- is legal, and the buffer keeps its length. The measure is what is left of the piece.
+-- is legal, and the buffer keeps its length. The measure is what is left of the piece: a turn is the quick way as far as it goes, and one line more.
 use mathlib.Core.Path.{_≡_, refl, _∙_}
 use Prim.Native.Nat.{_+_, _-_, _≤_}
 use native.Mathlib.Omega.{arith}
@@ -8,8 +8,8 @@ use borrow.Author.Needs.{needs}
 use Rattle.plan.specs.declared.Plan.{Plan}
 use Rattle.step.specs.Lent.{Lent}
 use Rattle.line.proofs.Parts.{to-end}
-use Rattle.run.specs.Fed.{lineTaken, firstLine, atOf, takenOf, pieceTaken}
-use Rattle.run.proofs.LineLoop.{fromPlace, place-start, place-end, place-on, place-stop, turn-lent}
+use Rattle.run.specs.Fed.{lineTaken, firstLine, atOf, takenOf, fromPlace, pieceTaken}
+use Rattle.run.proofs.LineLoop.{place-start, place-end, place-on, place-stop, turn-lent}
 use Rattle.run.proofs.stream.feed.Statement.{statement}
 use Rattle.run.proofs.stream.feed.Tie as tie
 
@@ -26,73 +26,118 @@ abbrev μ-loop : tie.MeasureT-loop
 loop-holds : tie.Need-loop-holds Inv-loop μ-loop
 loop-holds c = (omega arith, refl, λ h. h, λ p l. (l, place-start p _ _ _ _))
 
-feed-line-requires : tie.Need-feed-line-requires Inv-loop μ-loop
-feed-line-requires c κs = rw (to-end _ _) (omega (arith, length-drop (c .before .before .before .loop .at) (c .before .before .before .before .before .before .before .args .piece .now)))
+feed-roomy-requires : tie.Need-feed-roomy-requires Inv-loop μ-loop
+feed-roomy-requires c κs = c .before .before .loop .inv .0
 
--- one turn: the next line is there, it is taken as it should be, and no more than the piece has
-some : (c : tie.After-feed-line Inv-loop μ-loop) → 1 ≤ length (drop (c .before .before .before .before .loop .at) (c .before .before .before .before .before .before .before .before .args .piece .now))
-some c = rw length-drop (omega arith)
-
-turn : (c : tie.After-feed-line Inv-loop μ-loop)
-    → let l = c .before .before .before .before .loop in
-    let a = c .before .before .before .before .before .before .before .before .args in
+-- the quick way: the state stays legal, what is left behind it gives the same, and the fill stays within
+quick : (c : tie.After-feed-roomy Inv-loop μ-loop)
+    → let a = c .before .before .before .before .before .before .before .args in
+    let r = c .feed-roomy .result in
     (p : Plan) → Lent p (a .s .state) (a .rows) (a .lengths .now)
-    → takenOf (c .feed-line .result) (c .feed-line .last .1 .1 .1 .1 .0) ≡ lineTaken p (atOf (l .stream)) (firstLine (drop (l .at) (a .piece .now))) (l .out) (l .filled)
-turn c p h =
-    let l = c .before .before .before .before .loop in
-    let a = c .before .before .before .before .before .before .before .before .args in
-    rw (to-end (a .piece .now) (l .at)) at (c .feed-line .ensures .1 p (l .inv .3 p h .0))
+    → Lent p (r .stream .state) (a .rows) (a .lengths .now)
+    × (fromPlace p (atOf (r .stream)) (a .piece .now) (r .taken) (c .feed-roomy .last .1 .1 .1 .1 .1 .0) (r .fill) ≡ pieceTaken p (atOf (a .s)) (a .piece .now) (a .out .now) (a .fill))
+quick c p h =
+    let l = c .before .before .before .loop in
+    let e = c .feed-roomy .ensures .2 p (l .inv .3 p h .0) in
+    (e .0, e .1 ∙ l .inv .3 p h .1)
 
-within : (c : tie.After-feed-line Inv-loop μ-loop)
-    → c .before .before .before .before .loop .at + c .feed-line .result .taken ≤ length (c .before .before .before .before .before .before .before .before .args .piece .now)
-within c =
-    let l = c .before .before .before .before .loop in
-    let a = c .before .before .before .before .before .before .before .before .args in
-    let w = rw (to-end (a .piece .now) (l .at)) at (c .feed-line .ensures .0 .taken) in
-    omega (arith, length-drop (l .at) (a .piece .now))
+filled : (c : tie.After-feed-roomy Inv-loop μ-loop)
+    → let a = c .before .before .before .before .before .before .before .args in
+    a .fill ≤ length (a .out .now) → c .feed-roomy .result .fill ≤ length (a .out .now)
+filled c h =
+    let l = c .before .before .before .loop in
+    let m = l .inv .2 h in
+    omega (arith, l .inv .1, c .feed-roomy .ensures .1 .filled (omega (arith, l .inv .1)))
+
+same : (c : tie.After-feed-roomy Inv-loop μ-loop) → length (c .feed-roomy .last .1 .1 .1 .1 .1 .0) ≡ length (c .before .before .before .before .before .before .before .args .out .now)
+same c = c .feed-roomy .kept .1 .1 .1 .1 .1 .0 ∙ c .before .before .before .loop .inv .1
 
 returns : tie.Need-returns Inv-loop μ-loop
 unfolding takenOf
 returns c =
-    let t = c .before .before .before .before in
-    let l = t .before .before .before .before .loop in
-    let a = t .before .before .before .before .before .before .before .before .args in (
-      record { taken = l .inv .0; filled = l .inv .2 },
-      λ p h. place-stop p (atOf (l .stream)) (a .piece .now) (l .at) (l .out) (l .filled) (some t) (t .feed-line .result) _ (turn t p h) (c .if1 .taken) ∙ l .inv .3 p h .1,
+    let q = c .before .before .before in
+    let a = q .before .before .before .before .before .before .before .args in
+    let r = q .feed-roomy .result in (
+      record { taken = q .feed-roomy .ensures .1 .taken; filled = filled q },
+      λ p h. place-end p (atOf (r .stream)) (a .piece .now) (r .taken) _ (r .fill) (omega (arith, c .if1 .taken)) ∙ quick q p h .1,
     )
 
-add-at : tie.Need-add-at Inv-loop μ-loop
-add-at c =
-    let g = c .before .before .before .before .before .before .before .before .before .before .before .before .before .before .good .1 .1 .1 .0 in
-    omega (arith, within (c .before .before .before .before .before .before))
+-- one line more: it is there, it is taken as it should be, and no more than the piece has
+some : (c : tie.Else1 Inv-loop μ-loop) → let q = c .before .before .before in 1 ≤ length (drop (q .feed-roomy .result .taken) (q .before .before .before .before .before .before .before .args .piece .now))
+some c =
+    let q = c .before .before .before in
+    rw length-drop (omega (arith, c .if1 .left, q .feed-roomy .ensures .1 .taken))
 
-loop-less : tie.Need-loop-less Inv-loop μ-loop
-loop-less c = omega (arith, c .before .before .if1 .left, within (c .before .before .before .before .before .before))
+feed-line-requires : tie.Need-feed-line-requires Inv-loop μ-loop
+feed-line-requires c κs = rw (to-end _ _) (some (c .before .before .before))
 
-loop-again : tie.Need-loop-again Inv-loop μ-loop
-unfolding atOf
-loop-again c =
-    let t = c .before .before .before .before .before .before in
-    let l = t .before .before .before .before .loop in
-    let a = t .before .before .before .before .before .before .before .before .args in (
-      within t,
-      search needs,
-      λ h.
-          let k : length (l .out) ≡ length (a .out .now) = l .inv .1 in
-          let m = l .inv .2 h in
-          omega (arith, t .feed-line .ensures .0 .filled (omega arith)),
-      λ p h. (
-        turn-lent p (atOf (l .stream)) (a .piece .now) (l .at) (l .out) (l .filled) (a .rows) (a .lengths .now) _ (t .feed-line .result) _ (turn t p h) (l .inv .3 p h .0),
-        place-on p (atOf (l .stream)) (a .piece .now) (l .at) (l .out) (l .filled) (some t) (t .feed-line .result) _ (turn t p h) (c .before .before .if1 .left) ∙ l .inv .3 p h .1,
-      ),
-    )
+turn : (c : tie.After-feed-line Inv-loop μ-loop)
+    → let q = c .before .before .before .before .before .before .before in
+    let a = q .before .before .before .before .before .before .before .args in
+    let r = q .feed-roomy .result in
+    (p : Plan) → Lent p (a .s .state) (a .rows) (a .lengths .now)
+    → takenOf (c .feed-line .result) (c .feed-line .last .1 .1 .1 .1 .0) ≡ lineTaken p (atOf (r .stream)) (firstLine (drop (r .taken) (a .piece .now))) (q .feed-roomy .last .1 .1 .1 .1 .1 .0) (r .fill)
+turn c p h =
+    let q = c .before .before .before .before .before .before .before in
+    rw (to-end (q .before .before .before .before .before .before .before .args .piece .now) (q .feed-roomy .result .taken)) at (c .feed-line .ensures .1 p (quick q p h .0))
 
-same-length-2 : tie.Need-same-length-2 Inv-loop μ-loop
-same-length-2 c = c .before .loop .inv .1
+within : (c : tie.After-feed-line Inv-loop μ-loop)
+    → let q = c .before .before .before .before .before .before .before in
+    q .feed-roomy .result .taken + c .feed-line .result .taken ≤ length (q .before .before .before .before .before .before .before .args .piece .now)
+within c =
+    let q = c .before .before .before .before .before .before .before in
+    let t = q .before .before .before .before .before .before .before .args .piece .now in
+    let w = rw (to-end t (q .feed-roomy .result .taken)) at (c .feed-line .ensures .0 .taken) in
+    omega (arith, length-drop (q .feed-roomy .result .taken) t, q .feed-roomy .ensures .1 .taken)
+
+kept : (c : tie.After-feed-line Inv-loop μ-loop)
+    → length (c .feed-line .last .1 .1 .1 .1 .0) ≡ length (c .before .before .before .before .before .before .before .before .before .before .before .before .before .before .args .out .now)
+kept c = c .feed-line .kept .1 .1 .1 .1 .0 ∙ same (c .before .before .before .before .before .before .before)
 
 returns-2 : tie.Need-returns-2 Inv-loop μ-loop
 unfolding takenOf
 returns-2 c =
+    let f = c .before .before .before .before in
+    let q = f .before .before .before .before .before .before .before in
+    let a = q .before .before .before .before .before .before .before .args in
+    let r = q .feed-roomy .result in (
+      record { taken = q .feed-roomy .ensures .1 .taken; filled = filled q },
+      λ p h. place-stop p (atOf (r .stream)) (a .piece .now) (r .taken) _ (r .fill) (some (f .before .before .before .before)) (f .feed-line .result) _ (turn f p h) (c .if2 .taken) ∙ quick q p h .1,
+    )
+
+add-at : tie.Need-add-at Inv-loop μ-loop
+add-at c =
+    let f = c .before .before .before .before .before .before in
+    let q = f .before .before .before .before .before .before .before in
+    let g = q .before .before .before .before .before .before .before .good .1 .1 .1 .0 in
+    omega (arith, within f)
+
+loop-less : tie.Need-loop-less Inv-loop μ-loop
+loop-less c =
+    let f = c .before .before .before .before .before .before in
+    let q = f .before .before .before .before .before .before .before in
+    omega (arith, c .before .before .if2 .left, within f, q .feed-roomy .ensures .0)
+
+loop-again : tie.Need-loop-again Inv-loop μ-loop
+unfolding atOf
+loop-again c =
+    let f = c .before .before .before .before .before .before in
+    let q = f .before .before .before .before .before .before .before in
+    let a = q .before .before .before .before .before .before .before .args in
+    let r = q .feed-roomy .result in
+    let s = some (f .before .before .before .before) in (
+      within f,
+      kept f,
+      λ h. omega (arith, same q, f .feed-line .ensures .0 .filled (omega (arith, same q, filled q h))),
+      λ p h. (
+        turn-lent p (atOf (r .stream)) (a .piece .now) (r .taken) _ (r .fill) (a .rows) (a .lengths .now) _ (f .feed-line .result) _ (turn f p h) (quick q p h .0),
+        place-on p (atOf (r .stream)) (a .piece .now) (r .taken) _ (r .fill) s (f .feed-line .result) _ (turn f p h) (c .before .before .if2 .left) ∙ quick q p h .1,
+      ),
+    )
+
+returns-3 : tie.Need-returns-3 Inv-loop μ-loop
+unfolding takenOf
+returns-3 c =
     let l = c .before .loop in
     let a = c .before .before .before .before .before .args in (
       record { taken = l .inv .0; filled = l .inv .2 },
@@ -106,14 +151,17 @@ feed-spec =
     Inv-loop
     μ-loop
     loop-holds
+    feed-roomy-requires
+    (λ c. same (c .before .before .before))
+    returns
     (λ c. omega arith)
     (λ c. omega arith)
     (λ c. omega arith)
     feed-line-requires
-    (λ c. search needs)
-    returns
+    (λ c. kept (c .before .before .before .before))
+    returns-2
     add-at
     loop-less
     loop-again
-    same-length-2
-    returns-2)
+    (λ c. c .before .loop .inv .1)
+    returns-3)

@@ -1,4 +1,4 @@
--- `skrzypolot::events::run_pieces` is safe and ends. The loop's invariant: count and fill lie within their buffers. The measure is the number of turns left.
+-- `skrzypolot::events::run_pieces` is safe and ends. The loop's invariant: count and fill lie within their buffers, and the state is legal. The measure is the number of turns left.
 use mathlib.Core.Path.{_≡_, sym}
 use Prim.Native.Nat.{_≤_}
 use native.Mathlib.Omega.{arith}
@@ -6,12 +6,18 @@ use lib.ListN.{length}
 use lib.Seq.{length-take-le}
 use borrow.Author.Needs.{needs}
 use Rattle.io.specs.Counts.{Counts}
+use Rattle.skrzypolot.specs.Went.{Running}
 use Rattle.skrzypolot.proofs.events.run_pieces.Statement.{statement}
 use Rattle.skrzypolot.proofs.events.run_pieces.Tie as tie
 
 abbrev Inv-loop : tie.InvT-loop
 Inv-loop rows lengths fd path piece₀ out₀ g₀ turns₀ piece out g turns =
-    Counts (g .count) piece × (g .fill ≤ length out) × (length piece ≡ length piece₀) × (length out ≡ length out₀)
+    Counts (g .count) piece
+    × (g .fill ≤ length out)
+    × (length piece ≡ length piece₀)
+    × (length out ≡ length out₀)
+    × (128 ≤ length out)
+    × Running (g .stream .state) rows lengths
 
 abbrev μ-loop : tie.MeasureT-loop
 μ-loop rows lengths fd path piece₀ out₀ g₀ turns₀ piece out g turns = turns

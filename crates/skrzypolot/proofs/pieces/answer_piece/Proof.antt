@@ -1,5 +1,6 @@
 -- `skrzypolot::pieces::answer_piece` meets its contract. The loop's invariant: the run stands where the definition says, and what was written out and
--- what the buffer holds are what it prints of the bytes taken so far. Each turn takes some bytes, or empties a buffer that was not empty.
+-- what the buffer holds are what it prints of the bytes taken so far. Each turn takes some bytes, or empties a buffer that was not empty: an empty one
+-- has room for any line.
 use mathlib.Core.Bool.{true≢false}
 use mathlib.Core.Path.{_≡_, refl, sym, _∙_}
 use Prim.Native.Nat.{ℕ, _+_, _*_, _-_, _≤_, _<_}
@@ -10,24 +11,26 @@ use borrow.Author.Needs.{needs}
 use Rattle.line.proofs.Parts.{to-end}
 use Rattle.plan.specs.declared.Plan.{Plan}
 use Rattle.run.specs.Fed.{atOf, takenOf, pieceTaken}
+use Rattle.run.proofs.RoomTakes.{takes-some}
 use Rattle.step.specs.Lent.{Lent}
 use Rattle.skrzypolot.proofs.Through.{went-start, turn-stays, went-on, went-none, went-all}
 use Rattle.skrzypolot.proofs.pieces.answer_piece.Statement.{statement}
 use Rattle.skrzypolot.proofs.pieces.answer_piece.Tie as tie
-use Rattle.skrzypolot.specs.Went.{Went}
+use Rattle.skrzypolot.specs.Went.{Running, Went}
 
 abbrev Inv-loop : tie.InvT-loop
 Inv-loop rows lengths piece out₀ fill stream₀ filled₀ at₀ out stream filled at =
     (at ≤ length piece)
     × (length out ≡ length out₀)
     × (filled ≤ length out₀)
+    × Running (stream .state) rows lengths
     × ((p : Plan) → Lent p (stream₀ .state) rows lengths → Lent p (stream .state) rows lengths × Went p (atOf stream₀) (take fill out₀) (take at piece) (atOf stream) (take filled out))
 
 abbrev μ-loop : tie.MeasureT-loop
 μ-loop rows lengths piece out₀ fill stream₀ filled₀ at₀ out stream filled at = 2 * (length piece - at) + (1 - (1 - filled))
 
 loop-holds : tie.Need-loop-holds Inv-loop μ-loop
-loop-holds c = (omega arith, refl, omega arith, λ p l. (l, went-start p _ _))
+loop-holds c = (omega arith, refl, omega arith, c .before .before .before .pre .2, λ p l. (l, went-start p _ _))
 
 sub-feed : tie.Need-sub-feed Inv-loop μ-loop
 sub-feed c = omega arith
@@ -54,12 +57,38 @@ in-piece c =
 turn : (c : tie.After-feed Inv-loop μ-loop)
     → let l = c .before .before .before .before .loop in
     let a = c .before .before .before .before .before .before .before .before .args in
-    (p : Plan) → Lent p (a .s .state) (a .rows) (a .lengths .now)
+    (p : Plan) → Lent p (l .stream .state) (a .rows) (a .lengths .now)
     → takenOf (c .feed .result) (c .feed .last .1 .1 .1 .1 .0) ≡ pieceTaken p (atOf (l .stream)) (drop (l .at) (a .piece .now)) (l .out) (l .filled)
 turn c p h =
     let l = c .before .before .before .before .loop in
     let a = c .before .before .before .before .before .before .before .before .args in
-    rw (to-end (a .piece .now) (l .at)) at (c .feed .ensures .1 p (l .inv .3 p h .0))
+    rw (to-end (a .piece .now) (l .at)) at (c .feed .ensures .1 p h)
+
+-- the state stays legal
+stays : (c : tie.After-feed Inv-loop μ-loop)
+    → let a = c .before .before .before .before .before .before .before .before .args in
+    Running (c .feed .result .stream .state) (a .rows) (a .lengths .now)
+unfolding atOf
+stays c =
+    let l = c .before .before .before .before .loop in
+    let a = c .before .before .before .before .before .before .before .before .args in
+    let w = l .inv .3 in
+    let k = l .inv .1 in
+    record {
+      plan = w .plan;
+      lent = turn-stays (w .plan) (a .piece .now) (l .at) (atOf (l .stream)) (l .out) (l .filled) _ _ (turn c (w .plan) (w .lent)) (omega (arith, l .inv .2)) (a .rows) (a .lengths .now) (w .lent);
+    }
+
+-- an empty buffer takes some
+not-empty : (c : tie.After-feed Inv-loop μ-loop) → c .feed .result .taken ≡ 0 → 1 ≤ c .before .before .before .before .loop .filled
+not-empty c z =
+    let l = c .before .before .before .before .loop in
+    let s = c .before .before .before .before .before .before .before .before in
+    let w = l .inv .3 in
+    let k = l .inv .1 in
+    let n : l .filled ≡ 0 → ⊥ = λ e.
+    takes-some (w .plan) (w .lent .accepted) (atOf (l .stream)) (drop (l .at) (s .args .piece .now)) (l .out) (l .filled) (rw length-drop (omega (arith, c .before .before .before .loop-test .taken))) (omega (arith, s .pre .1)) _ _ (turn c (w .plan) (w .lent)) z in
+    omega (arith, n)
 
 slice-reshare-prefix-write-out : tie.Need-slice-reshare-prefix-write-out Inv-loop μ-loop
 slice-reshare-prefix-write-out c = search needs
@@ -74,27 +103,28 @@ same-length : tie.Need-same-length Inv-loop μ-loop
 same-length c = search needs
 
 returns : tie.Need-returns Inv-loop μ-loop
-returns c = (omega arith, λ p l f. absurd (true≢false f))
+returns c = ((omega arith, stays (c .before .before .before .before .before .before .before .before)), λ p l f. absurd (true≢false f))
 
 loop-less : tie.Need-loop-less Inv-loop μ-loop
-loop-less c = omega (arith, c .before .before .before .if2 .left)
+loop-less c = omega (arith, not-empty (c .before .before .before .before .before .before .before .before) (c .before .before .before .if1 .taken))
 
 loop-again : tie.Need-loop-again Inv-loop μ-loop
 unfolding atOf
 loop-again c =
-    let t = c .before .before .before .before .before .before .before .before .before in
+    let t = c .before .before .before .before .before .before .before .before in
     let l = t .before .before .before .before .loop in
     let a = t .before .before .before .before .before .before .before .before .args in (
       l .inv .0,
       t .feed .kept .1 .1 .1 .1 .0 ∙ l .inv .1,
       omega arith,
+      stays t,
       λ p q.
-          let h = l .inv .3 p q in
-          let e = turn t p q in
+          let h = l .inv .4 p q in
+          let e = turn t p (h .0) in
           let k = l .inv .1 in
           let f : l .filled ≤ length (l .out) = omega (arith, l .inv .2) in (
             turn-stays p (a .piece .now) (l .at) (atOf (l .stream)) (l .out) (l .filled) _ _ e f (a .rows) (a .lengths .now) (h .0),
-            went-none p (a .piece .now) (l .at) (atOf (l .stream)) (l .out) (l .filled) _ _ e f _ _ (c .before .before .before .before .if1 .taken) (h .1),
+            went-none p (a .piece .now) (l .at) (atOf (l .stream)) (l .out) (l .filled) _ _ e f _ _ (c .before .before .before .if1 .taken) (h .1),
           ),
     )
 
@@ -120,9 +150,10 @@ loop-again-2 c =
       in-piece t,
       t .feed .kept .1 .1 .1 .1 .0 ∙ l .inv .1,
       omega (arith, t .feed .ensures .0 .filled (omega arith)),
+      stays t,
       λ p q.
-          let h = l .inv .3 p q in
-          let e = turn t p q in
+          let h = l .inv .4 p q in
+          let e = turn t p (h .0) in
           let f : l .filled ≤ length (l .out) = omega (arith, l .inv .2) in (
             turn-stays p (a .piece .now) (l .at) (atOf (l .stream)) (l .out) (l .filled) _ _ e f (a .rows) (a .lengths .now) (h .0),
             went-on p (a .piece .now) (l .at) (atOf (l .stream)) (l .out) (l .filled) _ _ e f _ _ (h .1),
@@ -135,8 +166,8 @@ same-length-2 c = c .before .loop .inv .1
 returns-2 : tie.Need-returns-2 Inv-loop μ-loop
 returns-2 c =
     let l = c .before .loop in (
-      omega arith,
-      λ p q f. went-all p _ _ _ (l .at) _ _ (c .loop-test .left) (l .inv .3 p q .1),
+      (omega arith, l .inv .3),
+      λ p q f. went-all p _ _ _ (l .at) _ _ (c .loop-test .left) (l .inv .4 p q .1),
     )
 
 pub answer-piece-spec : {M : Type 1} → statement M
