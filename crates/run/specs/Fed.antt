@@ -8,7 +8,7 @@ use Rattle.text.specs.Lines.{lineFeed, until, lines}
 use Rattle.plan.specs.declared.Plan.{Plan}
 use Rattle.state.specs.declared.State.{State}
 use Rattle.line.specs.Filled.{hasRoom, outAfter}
-use Rattle.run.specs.declared.stream.Kept.{Kept}
+use Rattle.run.specs.declared.kept.Kept.{Kept}
 use Rattle.run.specs.declared.stream.Stream.{Stream}
 use Rattle.run.specs.declared.stream.Fed.{Fed}
 use Rattle.run.specs.Stream.{At, fed, fedPrinted}

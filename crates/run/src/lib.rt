@@ -1,4 +1,5 @@
 // The run program and the admission report as library calls over slices, in whole and in pieces.
+mod kept;
 mod lines;
 mod refusal;
 pub mod report;

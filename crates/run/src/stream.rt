@@ -1,5 +1,8 @@
 // "The run program": an event file that comes in pieces, cut anywhere. A line of any length takes no more memory than 20 bytes: no event line is
 // longer. A line that lies whole in a piece is read where it lies.
+use crate::kept::Kept;
+use crate::kept::keep;
+use crate::kept::size_of;
 use crate::lines::line_in;
 use crate::lines::line_step;
 use line::Filled;
@@ -12,23 +15,16 @@ use step::Rows;
 use text::find;
 ghost use mathlib.Core.Path.{_≡_};
 ghost use mathlib.Core.Bool.{true};
-ghost use mathlib.Core.List.{_++_};
-ghost use Prim.Native.Nat.{ℕ, _+_, _≤_, min};
-ghost use lib.ListN.{length, take};
+ghost use Prim.Native.Nat.{ℕ, _+_, _≤_};
+ghost use lib.ListN.{length};
 ghost use Rattle.text.specs.Lines.{lineFeed, until};
 ghost use Rattle.plan.specs.declared.Plan.{Plan};
 ghost use Rattle.step.specs.Lent.{Lent};
 ghost use Rattle.line.specs.declared.Filled.the-variants.{Fill};
 ghost use Rattle.line.specs.Filled.{fillAfter, outAfter};
 ghost use Rattle.line.specs.Run.{mostLines};
-ghost use Rattle.run.specs.Stream.{mostKept, start, lineDone, linePrinted, endPrinted};
-ghost use Rattle.run.specs.Fed.{keptOf, atOf, takenOf, Within, takenTo, lineTaken, fromPlace, pieceTaken, firstLine, lineStart, wholeLine};
-
-// The first bytes of a line that is not whole yet. A length past 20 means 20.
-pub struct Kept {
-    pub bytes: [u8; 20],
-    pub length: u8,
-}
+ghost use Rattle.run.specs.Stream.{start, lineDone, linePrinted, endPrinted};
+ghost use Rattle.run.specs.Fed.{atOf, takenOf, Within, takenTo, lineTaken, fromPlace, pieceTaken, firstLine, lineStart, wholeLine};
 
 // Where a run stands: its state, the number of its next line, and what came of that line.
 pub struct Stream {
@@ -42,39 +38,6 @@ pub struct Fed {
     pub stream: Stream,
     pub taken: usize,
     pub fill: usize,
-}
-
-// How many bytes are kept.
-fn size_of(k: Kept) -> usize
-    ensures { λ r. ⌜ r ≡ length (keptOf k) ⌝ }
-{
-    let n = k.length;
-    if n < 20 { n as usize } else { 20 }
-}
-
-// The smaller of two counts.
-fn least(a: usize, b: usize) -> usize
-    ensures { λ r. ⌜ r ≡ min a b ⌝ }
-{
-    if a < b { a } else { b }
-}
-
-// More bytes of the line behind those that are kept, up to 20.
-fn keep(k: Kept, part: &[u8]) -> Kept
-    ensures { λ r. ⌜ keptOf r ≡ take mostKept (keptOf k ++ now (part .entry)) ⌝ }
-{
-    let mut bytes = k.bytes;
-    let n = size_of(k);
-    let count = least(20 - n, part.len());
-    let mut i = 0;
-    while i < count {
-        bytes[n + i] = part[i];
-        i += 1;
-    }
-    Kept {
-        bytes,
-        length: (n + count) as u8,
-    }
 }
 
 // Before the first byte of a line.

@@ -1,4 +1,4 @@
--- `run::stream::keep` meets its contract. The loop's invariant: the first n + i bytes are those kept before and the first i of the part. The measure is
+-- `run::kept::keep` meets its contract. The loop's invariant: the first n + i bytes are those kept before and the first i of the part. The measure is
 -- what is left to copy.
 use mathlib.Core.Path.{_≡_, _∙_}
 use mathlib.Core.List.{_++_, append-nil}
@@ -9,8 +9,8 @@ use lib.ListN.{length, take, length-take, length-set}
 use borrow.Author.Needs.{needs}
 use Rattle.run.specs.Fed.{keptOf}
 use Rattle.run.proofs.KeptBytes.{kept-more, kept-next}
-use Rattle.run.proofs.stream.keep.Statement.{statement}
-use Rattle.run.proofs.stream.keep.Tie as tie
+use Rattle.run.proofs.kept.keep.Statement.{statement}
+use Rattle.run.proofs.kept.keep.Tie as tie
 
 abbrev Inv-loop : tie.InvT-loop
 Inv-loop part bytes₀ n count i₀ bytes i = (take (n + i) bytes ≡ take n bytes₀ ++ take i part) × (length bytes ≡ 20) × (i ≤ count)

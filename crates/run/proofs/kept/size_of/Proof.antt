@@ -1,11 +1,11 @@
--- `run::stream::size_of` meets its contract: there are no more than the 20 bytes of the array.
+-- `run::kept::size_of` meets its contract: there are no more than the 20 bytes of the array.
 use mathlib.Core.Path.{_≡_}
 use native.Mathlib.Omega.{arith}
 use lib.ListN.{length, length-take}
 use borrow.Author.Needs.{needs}
 use Rattle.run.specs.Fed.{keptOf}
-use Rattle.run.proofs.stream.size_of.Statement.{statement}
-use Rattle.run.proofs.stream.size_of.Tie as tie
+use Rattle.run.proofs.kept.size_of.Statement.{statement}
+use Rattle.run.proofs.kept.size_of.Tie as tie
 
 returns : tie.Need-returns
 unfolding keptOf
