@@ -17,12 +17,13 @@ use Rattle.text.specs.Numbers.{decimal}
 use Rattle.plan.specs.declared.Plan.{Plan}
 use Rattle.plan.specs.Limits.{undeclared}
 use Rattle.plan.specs.Plan.{budget, owner, isGlobal, place, lengthOf, declares}
+use Rattle.plan.proofs.Facts.{row-there}
 use Rattle.reader.specs.declared.Line.the-variants.{Uses}
 use Rattle.reader.specs.Line.{kindOf}
 use Rattle.reader.specs.Conditions.{notGrammar, kindOrder, tooManyRows, noSuchRow, outOfRange, twice, twoSubsystems, aboveBudget}
 use Rattle.reader.specs.Reading.{withLine, withUse}
 use Rattle.exactly.specs.TextOf.{tabbed, texts, useText}
-use Rattle.exactly.proofs.PlanShape.{there-or-not, declares-not, declares-same}
+use Rattle.exactly.proofs.PlanShape.{declares-not, declares-same}
 use Rattle.exactly.proofs.ListedTied.{Stands}
 use Rattle.exactly.proofs.SoundPlan.{LengthFits, Sound}
 use Rattle.exactly.proofs.SoundFacts.{sound-ranged}
@@ -86,7 +87,7 @@ module _ (p : Plan) (w : Sound p) where
 
       -- a task that declares this resource so far is of the same subsystem, if the resource is local
       not-other : isGlobal p n ≡ false → (k : ℕ) → k < p .tasks → (declares q k n && not (eqb (owner p k) (owner p t))) ≡ false
-      not-other l k u = ⊎-elim above below (there-or-not k t)
+      not-other l k u = ⊎-elim above below (row-there k t)
         where
           below : t ≤ k → (declares q k n && not (eqb (owner p k) (owner p t))) ≡ false
           below h = rw (declares-not q k n (below-length k h u))
