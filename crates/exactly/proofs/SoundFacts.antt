@@ -1,4 +1,4 @@
--- An accepted plan is as one read, from the facts with names; and the entries of such a plan are small.
+-- What holds of every plan that is read holds of an accepted plan, by its facts with names; and the entries of such a plan are small.
 use mathlib.Core.Path.{_≡_, refl}
 use mathlib.Core.Logic.{_⊎_, inl, inr, ⊎-elim}
 use mathlib.Core.Bool.{Bool, true, false}
@@ -14,37 +14,17 @@ use Rattle.plan.specs.Plan.{period, budget, owner, isGlobal, place, lengthOf, d
 use Rattle.plan.specs.Facts.{Accepted}
 use Rattle.plan.proofs.Facts.{row-there}
 use Rattle.exactly.proofs.PlanShape.{Shaped}
-use Rattle.exactly.proofs.SoundPlan.{SubsystemsFit, TasksFit, KindsFit, UsesFit, Sound}
+use Rattle.exactly.proofs.SoundPlan.{RowsFit, UsesFit, Sound}
 
 -- past the end of a table there is 0
 absent : (l : List ℕ) (m i : ℕ) → length l ≡ m → (i < m → getD l i 0 ≡ 0) → getD l i 0 ≡ 0
 absent l m i e f = ⊎-elim f (λ h. List·getD-eq-default l 0 (omega arith)) (row-there i m)
 
+rows-of : {m : ℕ} {P : ℕ → ℕ → Type 0} {n : ℕ} {l : List ℕ}
+    → length l ≡ m → n ≤ m → ((k : ℕ) → k < n → P k (getD l k 0)) → ((k : ℕ) → k < m → n ≤ k → getD l k 0 ≡ 0) → RowsFit m P n l
+rows-of {m} {P} {n} {l} long few fits none = record { few = few; fits = fits; none = λ k h. absent l m k long (λ u. none k u h) }
+
 module _ (p : Plan) (shape : Shaped p) (A : Accepted p) where
-  subsystems-of : SubsystemsFit (p .subsystems) (p .periods) (p .budgets)
-  unfolding period budget
-  subsystems-of = record {
-    few = A .subsystems-most;
-    fits = λ s h. (A .period-whole s h, A .period-most s h, A .budget-whole s h, A .budget-most s h);
-    no-period = λ s h. absent (p .periods) 8 s (shape .periods-long) (λ l. A .no-period s l h);
-    no-budget = λ s h. absent (p .budgets) 8 s (shape .budgets-long) (λ l. A .no-budget s l h);
-  }
-
-  tasks-of : TasksFit (p .subsystems) (p .tasks) (p .owners)
-  unfolding owner
-  tasks-of = record {
-    few = A .tasks-most;
-    owned = A .owner-there;
-    no-owner = λ t h. absent (p .owners) 32 t (shape .owners-long) (λ l. A .no-owner t l h);
-  }
-
-  kinds-of : KindsFit (p .resources) (p .kinds)
-  kinds-of = record {
-    few = A .resources-most;
-    kinded = A .kind-known;
-    no-kind = λ r h. absent (p .kinds) 16 r (shape .kinds-long) (λ l. A .no-kind r l h);
-  }
-
   no-length : (t r : ℕ) → r < 16 → (t < p .tasks → r < p .resources → ⊥) → lengthOf p t r ≡ 0
   unfolding lengthOf place
   no-length t r u n = ⊎-elim there beyond (row-there t (p .tasks))
@@ -71,7 +51,15 @@ module _ (p : Plan) (shape : Shaped p) (A : Accepted p) where
   }
 
   pub accepted-sound : Sound p
-  accepted-sound = record { shaped = shape; subsystems-fit = subsystems-of; tasks-fit = tasks-of; kinds-fit = kinds-of; uses-fit = uses-of }
+  unfolding period budget owner
+  accepted-sound = record {
+    shaped = shape;
+    periods-fit = rows-of (shape .periods-long) (A .subsystems-most) (λ s h. (A .period-whole s h, A .period-most s h)) (A .no-period);
+    budgets-fit = rows-of (shape .budgets-long) (A .subsystems-most) (λ s h. (A .budget-whole s h, A .budget-most s h)) (A .no-budget);
+    owners-fit = rows-of (shape .owners-long) (A .tasks-most) (A .owner-there) (A .no-owner);
+    kinds-fit = rows-of (shape .kinds-long) (A .resources-most) (A .kind-known) (A .no-kind);
+    uses-fit = uses-of;
+  }
 
 -- the entries of a plan are numbers of 16 bits and of bytes
 pub record Ranged (p : Plan) : Type 0 where
@@ -83,6 +71,10 @@ pub record Ranged (p : Plan) : Type 0 where
   pub owners-small : (i : ℕ) → getD (p .owners) i 0 < 256
   pub kinds-small : (i : ℕ) → getD (p .kinds) i 0 < 256
   pub lengths-small : (i : ℕ) → getD (p .lengths) i 0 < 65536
+
+rows-small : (c : ℕ) {m : ℕ} {P : ℕ → ℕ → Type 0} {n : ℕ} {l : List ℕ} → RowsFit m P n l → 0 < c → ((k x : ℕ) → k < n → P k x → x < c)
+    → (i : ℕ) → getD l i 0 < c
+rows-small c {n = n} w some small i = ⊎-elim (λ h. small i _ h (w .fits i h)) (λ h. omega (arith, w .none i h)) (row-there i n)
 
 module _ (p : Plan) (w : Sound p) where
   -- a length is in range, or the mark of an undeclared pair, or 0
@@ -106,24 +98,12 @@ module _ (p : Plan) (w : Sound p) where
 
   pub sound-ranged : Ranged p
   sound-ranged = record {
-    subsystems-few = w .subsystems-fit .few;
-    tasks-few = w .tasks-fit .few;
+    subsystems-few = w .periods-fit .few;
+    tasks-few = w .owners-fit .few;
     resources-few = w .kinds-fit .few;
-    periods-small = λ i. ⊎-elim
-        (λ h. omega (arith, w .subsystems-fit .fits i h))
-        (λ h. omega (arith, w .subsystems-fit .no-period i h))
-        (row-there i (p .subsystems));
-    budgets-small = λ i. ⊎-elim
-        (λ h. omega (arith, w .subsystems-fit .fits i h))
-        (λ h. omega (arith, w .subsystems-fit .no-budget i h))
-        (row-there i (p .subsystems));
-    owners-small = λ i. ⊎-elim
-        (λ h. omega (arith, w .tasks-fit .owned i h, w .subsystems-fit .few))
-        (λ h. omega (arith, w .tasks-fit .no-owner i h))
-        (row-there i (p .tasks));
-    kinds-small = λ i. ⊎-elim
-        (λ h. omega (arith, w .kinds-fit .kinded i h))
-        (λ h. omega (arith, w .kinds-fit .no-kind i h))
-        (row-there i (p .resources));
+    periods-small = rows-small 65536 (w .periods-fit) (omega arith) (λ k x h f. omega arith);
+    budgets-small = rows-small 65536 (w .budgets-fit) (omega arith) (λ k x h f. omega (arith, w .periods-fit .fits k h));
+    owners-small = rows-small 256 (w .owners-fit) (omega arith) (λ k x h f. omega (arith, w .periods-fit .few));
+    kinds-small = rows-small 256 (w .kinds-fit) (omega arith) (λ k x h f. omega arith);
     lengths-small = lengths-at;
   }

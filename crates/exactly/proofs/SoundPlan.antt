@@ -14,24 +14,24 @@ use Rattle.plan.proofs.Facts.{facts-accepted}
 use Rattle.exactly.proofs.PlanShape.{Shaped}
 use Rattle.exactly.proofs.ListedTied.{Stands}
 
--- the first n rows of subsystems are in range, and the others are 0
-pub record SubsystemsFit (n : ℕ) (periods budgets : List ℕ) : Type 0 where
-  pub few : n ≤ 8
-  pub fits : (s : ℕ) → s < n → (1 ≤ getD periods s 0) × (getD periods s 0 ≤ 10000) × (1 ≤ getD budgets s 0) × (getD budgets s 0 ≤ getD periods s 0)
-  pub no-period : (s : ℕ) → n ≤ s → getD periods s 0 ≡ 0
-  pub no-budget : (s : ℕ) → n ≤ s → getD budgets s 0 ≡ 0
+-- the first n entries of a table of m are such, and the others are 0
+pub record RowsFit (m : ℕ) (P : ℕ → ℕ → Type 0) (n : ℕ) (l : List ℕ) : Type 0 where
+  pub few : n ≤ m
+  pub fits : (k : ℕ) → k < n → P k (getD l k 0)
+  pub none : (k : ℕ) → n ≤ k → getD l k 0 ≡ 0
 
--- the first n tasks are of subsystems below m, and the others are 0
-pub record TasksFit (m n : ℕ) (owners : List ℕ) : Type 0 where
-  pub few : n ≤ 32
-  pub owned : (t : ℕ) → t < n → getD owners t 0 < m
-  pub no-owner : (t : ℕ) → n ≤ t → getD owners t 0 ≡ 0
+-- a period, a budget beside the periods, an owner and a kind
+abbrev pub PeriodFits : ℕ → ℕ → Type 0
+PeriodFits s a = (1 ≤ a) × (a ≤ 10000)
 
--- the first n resources are local or global, and the others are 0
-pub record KindsFit (n : ℕ) (kinds : List ℕ) : Type 0 where
-  pub few : n ≤ 16
-  pub kinded : (r : ℕ) → r < n → getD kinds r 0 ≤ 1
-  pub no-kind : (r : ℕ) → n ≤ r → getD kinds r 0 ≡ 0
+abbrev pub BudgetFits : List ℕ → ℕ → ℕ → Type 0
+BudgetFits periods s b = (1 ≤ b) × (b ≤ getD periods s 0)
+
+abbrev pub OwnerFits : ℕ → ℕ → ℕ → Type 0
+OwnerFits subsystems t s = s < subsystems
+
+abbrev pub KindFits : ℕ → ℕ → Type 0
+KindFits r k = k ≤ 1
 
 -- the length of a declared pair is in range
 pub record LengthFits (p : Plan) (t r : ℕ) : Type 0 where
@@ -46,9 +46,10 @@ pub record UsesFit (p : Plan) : Type 0 where
 
 pub record Sound (p : Plan) : Type 0 where
   pub shaped : Shaped p
-  pub subsystems-fit : SubsystemsFit (p .subsystems) (p .periods) (p .budgets)
-  pub tasks-fit : TasksFit (p .subsystems) (p .tasks) (p .owners)
-  pub kinds-fit : KindsFit (p .resources) (p .kinds)
+  pub periods-fit : RowsFit 8 PeriodFits (p .subsystems) (p .periods)
+  pub budgets-fit : RowsFit 8 (BudgetFits (p .periods)) (p .subsystems) (p .budgets)
+  pub owners-fit : RowsFit 32 (OwnerFits (p .subsystems)) (p .tasks) (p .owners)
+  pub kinds-fit : RowsFit 16 KindFits (p .resources) (p .kinds)
   pub uses-fit : UsesFit p
 
 -- the facts of an accepted plan, where a subsystem is there and no margin is negative
@@ -57,24 +58,24 @@ unfolding period budget owner
 sound-facts p w some enough =
     record {
       some-subsystem = some;
-      subsystems-most = w .subsystems-fit .few;
-      tasks-most = w .tasks-fit .few;
+      subsystems-most = w .periods-fit .few;
+      tasks-most = w .owners-fit .few;
       resources-most = w .kinds-fit .few;
-      period-whole = λ s h. w .subsystems-fit .fits s h .0;
-      period-most = λ s h. w .subsystems-fit .fits s h .1;
-      budget-whole = λ s h. w .subsystems-fit .fits s h .2;
-      budget-most = λ s h. w .subsystems-fit .fits s h .3;
-      owner-there = w .tasks-fit .owned;
-      kind-known = w .kinds-fit .kinded;
+      period-whole = λ s h. w .periods-fit .fits s h .0;
+      period-most = λ s h. w .periods-fit .fits s h .1;
+      budget-whole = λ s h. w .budgets-fit .fits s h .0;
+      budget-most = λ s h. w .budgets-fit .fits s h .1;
+      owner-there = w .owners-fit .fits;
+      kind-known = w .kinds-fit .fits;
       global-length = λ t r h l d g. length t r h l d .global g .0;
       global-longest = λ t r h l d g. length t r h l d .global g .1;
       within-budget = λ t r h l d g. length t r h l d .global g .2;
       local-length = λ t r h l d. length t r h l d .local;
       one-subsystem = λ r j k l a b g d c. w .uses-fit .one-owner r j k g (stands j r a l d) (stands k r b l c);
-      no-period = λ s l. w .subsystems-fit .no-period s;
-      no-budget = λ s l. w .subsystems-fit .no-budget s;
-      no-owner = λ t l. w .tasks-fit .no-owner t;
-      no-kind = λ r l. w .kinds-fit .no-kind r;
+      no-period = λ s l. w .periods-fit .none s;
+      no-budget = λ s l. w .budgets-fit .none s;
+      no-owner = λ t l. w .owners-fit .none t;
+      no-kind = λ r l. w .kinds-fit .none r;
       no-length-task = λ t r a b h. w .uses-fit .no-length t r b (λ u v. omega arith);
       no-length-resource = λ t r a b h. w .uses-fit .no-length t r b (λ u v. omega arith);
       fits = enough;

@@ -57,7 +57,7 @@ module _ (p : Plan) (w : Sound p) where
     below-length k h u =
         entered-else p t n (enteredTo p t) (le-of-lt room) k n room (λ e v. omega arith)
         ∙ enteredTo-else p w t k n room (λ x y. omega arith)
-        ∙ openedTo-there (p .tasks) (p .resources) (w .tasks-fit .few) (w .kinds-fit .few) k n u hn
+        ∙ openedTo-there (p .tasks) (p .resources) (w .owners-fit .few) (w .kinds-fit .few) k n u hn
 
     module _ (d : declares p t n ≡ true) where
       stands : Stands p t n
@@ -136,7 +136,7 @@ module _ (p : Plan) (w : Sound p) where
           reads-fields 3 (bytes "U") (decimal t ∷ decimal n ∷ decimal (lengthOf p t n) ∷ []) q (before t (suc n)) (Uses t n (lengthOf p t n))
           (omega arith)
           (decimal-plain t, (decimal-plain n, (decimal-plain (lengthOf p t n), tt)))
-          (use-line t n (lengthOf p t n) (omega (arith, w .tasks-fit .few)) (omega arith) small)
+          (use-line t n (lengthOf p t n) (omega (arith, w .owners-fit .few)) (omega arith) small)
           refl
           passes
           next
