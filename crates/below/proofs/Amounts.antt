@@ -1,13 +1,10 @@
 -- Laws of sum and greatest: how a counting loop starts and goes on, bounds, and that only the numbers below n count.
-use mathlib.Core.Path.{_≡_, refl, sym, ap, ap₂}
+use mathlib.Core.Path.{_≡_, refl, ap}
 use mathlib.Core.Logic.{_≢_, _⊎_, inl, inr, ⊎-elim}
-use mathlib.Core.Bool.{Bool, true, false, cond}
 use Prim.Native.Nat.{ℕ, zero, suc, _+_, _*_, max, _≤_, _<_}
-use native.Mathlib.Nat.{not-suc-le-zero, le-of-suc-le-suc, eq-or-lt-of-le, le-of-eq, le-step, lt-suc-self}
+use native.Mathlib.Nat.{not-suc-le-zero, le-step, lt-suc-self}
 use native.Mathlib.Numerals.{add-one}
 use native.Mathlib.Omega.{arith}
-use lib.Dec.{leb, eqb}
-use borrow.Author.Tests.{leb-true, leb-false, eq-eqb, ne-eqb}
 use Rattle.below.specs.Below.{sum, greatest}
 use Rattle.below.proofs.Search.{last-or-before}
 
@@ -22,11 +19,6 @@ unfolding sum
 sum-next n f = rw add-one
 
 -- sum: entry by entry
-
-pub sum-agree : (n : ℕ) (f g : ℕ → ℕ) → ((k : ℕ) → k < n → f k ≡ g k) → sum n f ≡ sum n g
-unfolding sum
-sum-agree zero f g e = refl
-sum-agree (suc n) f g e = ap₂ _+_ (sum-agree n f g (λ k h. e k (le-step h))) (e n (lt-suc-self n))
 
 pub sum-rises : (n : ℕ) (f g : ℕ → ℕ) → ((k : ℕ) → k < n → f k ≤ g k) → sum n f ≤ sum n g
 unfolding sum
@@ -70,38 +62,9 @@ sum-only (suc n) f k h e = go (last-or-before h) (sum-only n f k)
         omega (arith, sum-zero n f (λ j l. e j (le-step l) (omega arith)))
     go (inr l) ih = omega (arith, ih l (λ j m. e j (le-step m)), e n (lt-suc-self n) (omega arith))
 
--- sum: one entry, and two together, are at most the sum
-
+-- sum: one entry is at most the sum
 pub sum-at : (n : ℕ) (f : ℕ → ℕ) (k : ℕ) → k < n → f k ≤ sum n f
 sum-at n f k h = omega (arith, sum-falls n (λ j. 0) f (f k) k h (omega arith) (λ j u. omega arith))
-
-pub sum-two : (n : ℕ) (f : ℕ → ℕ) (j k : ℕ) → j < n → k < n → j ≢ k → f j + f k ≤ sum n f
-sum-two n f j k hj hk ne = omega (arith, sum-at n only j hj, at-j, sum-falls n only f (f k) k hk (omega (arith, at-k)) less)
-  where
-    only : ℕ → ℕ
-    only i = cond (eqb i j) (f i) 0
-
-    at-j : only j ≡ f j
-    at-j = rw (eq-eqb j j refl)
-
-    at-k : only k ≡ 0
-    at-k = rw (ne-eqb k j (λ q. ne (sym q)))
-
-    less : (i : ℕ) → i < n → only i ≤ f i
-    less i u = go (eqb i j)
-      where
-        go : (b : Bool) → cond b (f i) 0 ≤ f i
-        go true = omega arith
-        go false = omega arith
-
--- sum: of fewer entries it is at most that of more, so that a loop's sum stays below the whole
-pub sum-prefix : (m n : ℕ) (f : ℕ → ℕ) → m ≤ n → sum m f ≤ sum n f
-unfolding sum
-sum-prefix m zero f h =
-    let z : m ≡ 0 = omega arith in
-    rw z (omega arith)
-sum-prefix m (suc n) f h =
-    ⊎-elim (λ q. le-of-eq (ap (λ (k : ℕ). sum k f) q)) (λ v. omega (arith, sum-prefix m n f (le-of-suc-le-suc v))) (eq-or-lt-of-le h)
 
 -- sum: of entries that are at most c
 pub sum-bounded : (n : ℕ) (f : ℕ → ℕ) (c : ℕ) → ((k : ℕ) → k < n → f k ≤ c) → sum n f ≤ n * c
@@ -119,7 +82,7 @@ pub greatest-next : (n : ℕ) (f : ℕ → ℕ) → greatest (n + 1) f ≡ max (
 unfolding greatest
 greatest-next n f = rw add-one
 
--- greatest: at least each entry, at most what bounds each entry, and some entry unless it is 0
+-- greatest: at least each entry, and at most what bounds each entry
 
 pub greatest-at : (n : ℕ) (f : ℕ → ℕ) (k : ℕ) → k < n → f k ≤ greatest n f
 unfolding greatest
@@ -136,26 +99,3 @@ pub greatest-most : (n : ℕ) (f : ℕ → ℕ) (m : ℕ) → ((k : ℕ) → k <
 unfolding greatest
 greatest-most zero f m l = omega arith
 greatest-most (suc n) f m l = omega (arith, greatest-most n f m (λ k h. l k (le-step h)), l n (lt-suc-self n))
-
--- a number below n where f has the value m
-pub record Reached (n : ℕ) (f : ℕ → ℕ) (m : ℕ) : Type 0 where
-  pub at : ℕ
-  pub there : at < n
-  pub value : f at ≡ m
-
-pub greatest-reached : (n : ℕ) (f : ℕ → ℕ) → 0 < greatest n f → Reached n f (greatest n f)
-unfolding greatest
-greatest-reached zero f h = absurd (not-suc-le-zero h)
-greatest-reached (suc n) f h = go (leb (greatest n f) (f n)) refl (greatest-reached n f)
-  where
-    go : (b : Bool) → leb (greatest n f) (f n) ≡ b → (0 < greatest n f → Reached n f (greatest n f))
-        → Reached (suc n) f (max (greatest n f) (f n))
-    go true e r = record { at = n; there = lt-suc-self n; value = omega (arith, leb-true (greatest n f) (f n) e) }
-    go false e r =
-        let w = r (omega (arith, leb-false (greatest n f) (f n) e)) in
-        record { at = w .at; there = le-step (w .there); value = omega (arith, w .value, leb-false (greatest n f) (f n) e) }
-
-pub greatest-agree : (n : ℕ) (f g : ℕ → ℕ) → ((k : ℕ) → k < n → f k ≡ g k) → greatest n f ≡ greatest n g
-unfolding greatest
-greatest-agree zero f g e = refl
-greatest-agree (suc n) f g e = ap₂ max (greatest-agree n f g (λ k h. e k (le-step h))) (e n (lt-suc-self n))

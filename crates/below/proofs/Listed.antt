@@ -6,7 +6,7 @@ use Prim.Native.Nat.{ℕ, zero, suc, _+_, _≤_, _<_}
 use native.Mathlib.Nat.{lt-suc-self, le-step, ne-of-lt, lt-of-lt-of-le}
 use native.Mathlib.Numerals.{add-one}
 use native.Mathlib.Omega.{arith}
-use lib.ListN.{length, getD, set, length-append, List·getD-append}
+use lib.ListN.{length, getD, set, length-set, length-append, List·getD-append}
 use lib.Seq.{ext-getD, getD-at, getD-set-same, getD-set-other}
 use Rattle.below.specs.Listed.{listed, listedOnto}
 use Rattle.below.proofs.Search.{last-or-before}
@@ -68,3 +68,23 @@ module _ {A : Type 0} where
   -- and when every number is passed
   pub filled-ended : (n i : ℕ) (f : ℕ → A) (d : A) (l : List A) → n ≤ i → length l ≡ n → ((k : ℕ) → k < i → getD l k d ≡ f k) → l ≡ listed n f
   filled-ended n i f d l h e below = listed-is n f d l e (λ k u. below k (lt-of-lt-of-le u h))
+
+  -- the same loop as one invariant: i of the n places of l hold their values, and the others are to come
+  pub record Filled (n : ℕ) (f : ℕ → A) (d : A) (l : List A) (i : ℕ) : Type 0 where
+    pub within : i ≤ n
+    pub sized : length l ≡ n
+    pub passed : (k : ℕ) → k < i → getD l k d ≡ f k
+
+  pub filled-begun : {n : ℕ} {f : ℕ → A} {d : A} {l : List A} {i : ℕ} → length l ≡ n → i ≡ 0 → Filled n f d l i
+  filled-begun e z = record { within = omega arith; sized = e; passed = λ k h. absurd (omega arith) }
+
+  module _ {n : ℕ} {f : ℕ → A} {d : A} {l : List A} {i : ℕ} (F : Filled n f d l i) where
+    pub filled-turn : {v : A} → i < n → v ≡ f i → Filled n f d (set l i v) (i + 1)
+    filled-turn {v} h e = record {
+      within = omega arith;
+      sized = length-set l i v ∙ F .sized;
+      passed = filled-next f d l i v (omega (arith, F .sized)) e (F .passed);
+    }
+
+    pub filled-whole : n ≤ i → l ≡ listed n f
+    filled-whole h = filled-ended n i f d l h (F .sized) (F .passed)

@@ -21,12 +21,6 @@ pub record Passing (n : ℕ) (p : ℕ → Bool) : Type 0 where
   pub there : at < n
   pub passes : p at ≡ true
 
--- a number below n that does not pass
-pub record Failing (n : ℕ) (p : ℕ → Bool) : Type 0 where
-  pub at : ℕ
-  pub there : at < n
-  pub fails : p at ≡ false
-
 -- all: the loop
 
 pub all-none : (p : ℕ → Bool) → all 0 p ≡ true
@@ -50,20 +44,7 @@ unfolding all
 all-of zero p f = refl
 all-of (suc n) p f = rw (all-of n p (λ k h. f k (le-step h)), f n (lt-suc-self n))
 
--- all: where the answer is false, some number does not pass
-pub all-false : (n : ℕ) (p : ℕ → Bool) → all n p ≡ false → Failing n p
-unfolding all
-all-false zero p e = absurd (true≢false e)
-all-false (suc n) p e = go (all n p) (p n) refl e (all-false n p)
-  where
-    go : (a b : Bool) → p n ≡ b → (a && b) ≡ false → (a ≡ false → Failing n p) → Failing (suc n) p
-    go false b eb q f =
-        let w = f refl in
-        record { at = w .at; there = le-step (w .there); fails = w .fails }
-    go true false eb q f = record { at = n; there = lt-suc-self n; fails = eb }
-    go true true eb q f = absurd (true≢false q)
-
--- and one that does not makes it false
+-- all: a number that does not pass makes it false
 pub all-not : (n : ℕ) (p : ℕ → Bool) (k : ℕ) → k < n → p k ≡ false → all n p ≡ false
 all-not n p k h e = go (all n p) refl
   where
@@ -150,10 +131,6 @@ first-cases n p C kept found missed = go (ltb (first n p) n) refl (p n) refl
     go false e true q = found (ltb-false (first n p) n e) q
     go false e false q = missed (ltb-false (first n p) n e) q
 
-pub first-none : (p : ℕ → Bool) → first 0 p ≡ 0
-unfolding first
-first-none p = refl
-
 pub first-kept : (n : ℕ) (p : ℕ → Bool) → first n p < n → first (n + 1) p ≡ first n p
 first-kept n p h =
     rw add-one (first-cases n p (λ x. x ≡ first n p) (λ l. refl) (λ l e. omega arith) (λ l e. omega arith))
@@ -162,11 +139,6 @@ pub first-found : (n : ℕ) (p : ℕ → Bool) → first n p ≡ n → p n ≡ t
 first-found n p h t =
     rw add-one
     (first-cases n p (λ x. x ≡ n) (λ l. h) (λ l e. refl) (λ l e. absurd (true≢false (sym t ∙ e))))
-
-pub first-missed : (n : ℕ) (p : ℕ → Bool) → first n p ≡ n → p n ≡ false → first (n + 1) p ≡ n + 1
-first-missed n p h t =
-    rw add-one
-    (first-cases n p (λ x. x ≡ suc n) (λ l. omega arith) (λ l e. absurd (true≢false (sym e ∙ t))) (λ l e. refl))
 
 -- first: it is at most n, below it no number passes, and below n it passes
 

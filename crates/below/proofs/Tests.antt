@@ -55,10 +55,6 @@ or-right false b e = e
 
 -- neither
 
-pub or-neither : (a b : Bool) → a ≡ false → b ≡ false → (a || b) ≡ false
-or-neither true b p q = absurd (true≢false p)
-or-neither false b p q = q
-
 pub or-no-left : (a b : Bool) → (a || b) ≡ false → a ≡ false
 or-no-left true b e = absurd (true≢false e)
 or-no-left false b e = refl
@@ -72,12 +68,7 @@ pub or-else : (a b : Bool) → (a ≡ false → b ≡ true) → (a || b) ≡ tru
 or-else true b f = refl
 or-else false b f = f refl
 
--- one, where the other cannot be
-
-pub or-first : (a b : Bool) → (a || b) ≡ true → (b ≡ true → ⊥) → a ≡ true
-or-first true b e h = refl
-or-first false b e h = absurd (h e)
-
+-- the second, where the first cannot be
 pub or-second : (a b : Bool) → (a || b) ≡ true → a ≡ false → b ≡ true
 or-second true b e h = absurd (true≢false h)
 or-second false b e h = e

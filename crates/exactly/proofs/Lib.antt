@@ -5,7 +5,6 @@ pub mod ListedPairs
 pub mod ListedTests
 pub mod ListedJudged
 pub mod Listed
-pub mod SoundTests
 pub mod SoundPlan
 pub mod SoundFacts
 pub mod SoundLines

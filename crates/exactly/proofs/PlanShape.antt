@@ -6,10 +6,10 @@ use mathlib.Core.List.{List}
 use Prim.Native.Nat.{ℕ, zero, suc, _≤_, _<_}
 use native.Mathlib.Nat.{not-suc-le-zero, le-step, lt-suc-self}
 use native.Mathlib.Omega.{arith}
-use lib.Dec.{ltb, eqb}
+use lib.Dec.{eqb}
 use lib.ListN.{length, getD, set, length-set, replicate, length-replicate}
 use lib.Seq.{getD-set-same, getD-set-other}
-use borrow.Author.Tests.{ltb-true, ltb-false, eqb-true, eqb-false, ne-eqb}
+use borrow.Author.Tests.{eqb-true, eqb-false, ne-eqb}
 use Rattle.below.proofs.Search.{last-or-before}
 use Rattle.plan.specs.declared.Plan.{Plan}
 use Rattle.plan.specs.Limits.{undeclared}
@@ -17,14 +17,6 @@ use Rattle.plan.specs.Plan.{place, lengthOf, declares}
 use Rattle.reader.specs.declared.Line.{Line}
 use Rattle.reader.specs.declared.Line.the-variants.{Subsystem, Task, Resource, Uses, Malformed}
 use Rattle.reader.specs.Reading.{emptyPlan, opened, withSubsystem, withTask, withResource, withUse, withLine}
-
--- a row is there or not
-pub there-or-not : (i n : ℕ) → (i < n) ⊎ (n ≤ i)
-there-or-not i n = go (ltb i n) refl
-  where
-    go : (b : Bool) → ltb i n ≡ b → (i < n) ⊎ (n ≤ i)
-    go true e = inl (ltb-true i n e)
-    go false e = inr (ltb-false i n e)
 
 -- the lists of a plan are as long as its tables
 pub record Shaped (p : Plan) : Type 0 where

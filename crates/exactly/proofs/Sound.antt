@@ -1,19 +1,13 @@
 -- The plan of an accepted text is an accepted plan: its tables are of their lengths, and its entries are small.
 use mathlib.Core.Path.{_≡_, refl}
-use mathlib.Core.Bool.{Bool, true, false}
+use mathlib.Core.Bool.{true}
 use mathlib.Core.List.{List, [], _∷_, _++_}
 use Prim.Native.Nat.{ℕ, zero, suc, _≤_, _<_}
 use native.Mathlib.Nat.{le-of-lt}
 use native.Mathlib.Omega.{arith}
-use lib.Dec.{ltb}
 use lib.ListN.{length, getD, take, List·getD-map}
 use lib.Seq.{take-suc, take-length}
-use borrow.Author.Tests.{le-ltb, le-leb}
-use Rattle.below.proofs.Search.{first-absent}
 use Rattle.text.specs.Lines.{lines, body}
-use Rattle.plan.specs.declared.Plan.{Plan}
-use Rattle.plan.specs.Plan.{period}
-use Rattle.plan.specs.Admission.{demand, firstNegative, admitted}
 use Rattle.plan.specs.Accepted.{accepted}
 use Rattle.reader.specs.declared.Line.{Line}
 use Rattle.reader.specs.declared.Line.the-variants.{Malformed}
@@ -83,25 +77,12 @@ module _ (text : List ℕ) (e : isAccepted (reading text .verdict) ≡ true) whe
   pub read-ranged : Ranged (reading text .plan)
   read-ranged = sound-ranged (reading text .plan) read-sound
 
-  -- no margin is negative
-  plan-admitted : admitted (planIn text) ≡ true
-  unfolding admitted firstNegative
-  plan-admitted = le-leb (p .subsystems) (firstNegative p) (omega (arith, first-absent (p .subsystems) over enough))
-    where
-      p : Plan
-      p = planIn text
-
-      over : ℕ → Bool
-      over s = ltb (period p s) (demand p s)
-
-      count : p .subsystems ≡ countOf 0 (linesOf text)
-      count = unfold planIn in all-built .tied .tables .subsystems-are
-
-      enough : (s : ℕ) → s < p .subsystems → over s ≡ false
-      enough s h = le-ltb (period p s) (demand p s) (meets .margins s (omega (arith, count)))
+  count : planIn text .subsystems ≡ countOf 0 (linesOf text)
+  unfolding planIn
+  count = all-built .tied .tables .subsystems-are
 
   pub read-accepted : accepted (reading text .plan) ≡ true
   unfolding planIn
   read-accepted =
       rw (accepted-plan text e)
-      (sound-accepted (planIn text) (all-built .sound) (omega (arith, meets .some-subsystem, all-built .tied .tables .subsystems-are)) plan-admitted)
+      (sound-accepted (planIn text) (all-built .sound) (omega (arith, meets .some-subsystem, count)) (λ s h. meets .margins s (omega (arith, count))))

@@ -1,116 +1,65 @@
--- The facts of an accepted plan, from the test; and that its entries are small.
-use mathlib.Core.Path.{_≡_, refl, sym, _∙_}
+-- What holds of every plan that is read holds of an accepted plan, by its facts with names; and the entries of such a plan are small.
+use mathlib.Core.Path.{_≡_, refl}
 use mathlib.Core.Logic.{_⊎_, inl, inr, ⊎-elim}
-use mathlib.Core.Bool.{Bool, true, false, true≢false}
+use mathlib.Core.Bool.{Bool, true, false}
+use mathlib.Core.List.{List}
 use Prim.Native.Nat.{ℕ, _/_, _%_, _≤_, _<_}
 use native.Mathlib.Nat.{div-add-mod'}
 use native.Mathlib.Omega.{arith}
 use lib.Dec.{eqb}
-use lib.ListN.{getD, List·getD-eq-default}
+use lib.ListN.{length, getD, List·getD-eq-default}
 use borrow.Author.Tests.{eqb-true, not-false}
 use Rattle.plan.specs.declared.Plan.{Plan}
 use Rattle.plan.specs.Plan.{period, budget, owner, isGlobal, place, lengthOf, declares}
-use Rattle.plan.specs.Admission.{admitted}
-use Rattle.plan.specs.Accepted.{accepted}
-use Rattle.exactly.proofs.PlanShape.{Shaped, there-or-not}
-use Rattle.exactly.proofs.ListedTied.{Stands}
-use Rattle.exactly.proofs.SoundPlan.{SubsystemsFit, TasksFit, KindsFit, LengthFits, UsesFit, Sound}
-use Rattle.exactly.proofs.SoundTests.{SubsystemCase, TaskCase, ResourceCase, LengthCase, UseCase, OneCase, AcceptedCase, accepted-shows}
+use Rattle.plan.specs.Facts.{Accepted}
+use Rattle.plan.proofs.Facts.{row-there}
+use Rattle.exactly.proofs.PlanShape.{Shaped}
+use Rattle.exactly.proofs.SoundPlan.{RowsFit, UsesFit, Sound}
 
-module _ (p : Plan) (shape : Shaped p) (e : accepted p ≡ true) where
-  case : AcceptedCase p
-  case = accepted-shows p .to e
+-- past the end of a table there is 0
+absent : (l : List ℕ) (m i : ℕ) → length l ≡ m → (i < m → getD l i 0 ≡ 0) → getD l i 0 ≡ 0
+absent l m i e f = ⊎-elim f (λ h. List·getD-eq-default l 0 (omega arith)) (row-there i m)
 
-  counts : ((1 ≤ p .subsystems × p .subsystems ≤ 8) × p .tasks ≤ 32) × p .resources ≤ 16
-  counts = case .0 .0 .0 .0 .0 .0
+rows-of : {m : ℕ} {P : ℕ → ℕ → Type 0} {n : ℕ} {l : List ℕ}
+    → length l ≡ m → n ≤ m → ((k : ℕ) → k < n → P k (getD l k 0)) → ((k : ℕ) → k < m → n ≤ k → getD l k 0 ≡ 0) → RowsFit m P n l
+rows-of {m} {P} {n} {l} long few fits none = record { few = few; fits = fits; none = λ k h. absent l m k long (λ u. none k u h) }
 
-  pub accepted-some : 1 ≤ p .subsystems
-  accepted-some = counts .0 .0 .0
-
-  pub accepted-admitted : admitted p ≡ true
-  accepted-admitted = case .1
-
-  -- past the tables there is nothing
-  subsystem-at : (s : ℕ) → SubsystemCase p s
-  unfolding period budget
-  subsystem-at s = ⊎-elim (case .0 .0 .0 .0 .0 .1 s) past (there-or-not s 8)
-    where
-      past : 8 ≤ s → SubsystemCase p s
-      past h =
-          inr (
-            (omega (arith, counts), List·getD-eq-default (p .periods) 0 (omega (arith, shape .periods-long))),
-            List·getD-eq-default (p .budgets) 0 (omega (arith, shape .budgets-long)),
-          )
-
-  task-at : (t : ℕ) → TaskCase p t
-  unfolding owner
-  task-at t = ⊎-elim (case .0 .0 .0 .0 .1 t) past (there-or-not t 32)
-    where
-      past : 32 ≤ t → TaskCase p t
-      past h = inr (omega (arith, counts), List·getD-eq-default (p .owners) 0 (omega (arith, shape .owners-long)))
-
-  resource-at : (r : ℕ) → ResourceCase p r
-  resource-at r = ⊎-elim (case .0 .0 .0 .1 r) past (there-or-not r 16)
-    where
-      past : 16 ≤ r → ResourceCase p r
-      past h = inr (omega (arith, counts), List·getD-eq-default (p .kinds) 0 (omega (arith, shape .kinds-long)))
-
-  use-at : (t r : ℕ) → r < 16 → UseCase p t r
+module _ (p : Plan) (shape : Shaped p) (A : Accepted p) where
+  no-length : (t r : ℕ) → r < 16 → (t < p .tasks → r < p .resources → ⊥) → lengthOf p t r ≡ 0
   unfolding lengthOf place
-  use-at t r u = ⊎-elim (λ h. case .0 .0 .1 t h r u) past (there-or-not t 32)
+  no-length t r u n = ⊎-elim there beyond (row-there t (p .tasks))
     where
-      past : 32 ≤ t → UseCase p t r
-      past h = inr (inl (omega (arith, counts)), List·getD-eq-default (p .lengths) 0 (omega (arith, shape .lengths-long)))
+      there : t < p .tasks → lengthOf p t r ≡ 0
+      there h = ⊎-elim (λ l. absurd (n h l)) (A .no-length-resource t r (omega (arith, A .tasks-most)) u) (row-there r (p .resources))
 
-  subsystems-of : SubsystemsFit (p .subsystems) (p .periods) (p .budgets)
-  unfolding period budget
-  subsystems-of = record {
-    few = counts .0 .0 .1;
-    fits = λ s h. ⊎-elim (λ c. (c .0 .0 .0 .1, c .0 .0 .1, c .0 .1, c .1)) (λ c. absurd (omega (arith, c))) (subsystem-at s);
-    no-period = λ s h. ⊎-elim (λ c. absurd (omega (arith, c))) (λ c. c .0 .1) (subsystem-at s);
-    no-budget = λ s h. ⊎-elim (λ c. absurd (omega (arith, c))) (λ c. c .1) (subsystem-at s);
-  }
-
-  tasks-of : TasksFit (p .subsystems) (p .tasks) (p .owners)
-  unfolding owner
-  tasks-of = record {
-    few = counts .0 .1;
-    owned = λ t h. ⊎-elim (λ c. c .1) (λ c. absurd (omega (arith, c))) (task-at t);
-    no-owner = λ t h. ⊎-elim (λ c. absurd (omega (arith, c))) (λ c. c .1) (task-at t);
-  }
-
-  kinds-of : KindsFit (p .resources) (p .kinds)
-  kinds-of = record {
-    few = counts .1;
-    kinded = λ r h. ⊎-elim (λ c. c .1) (λ c. absurd (omega (arith, c))) (resource-at r);
-    no-kind = λ r h. ⊎-elim (λ c. absurd (omega (arith, c))) (λ c. c .1) (resource-at r);
-  }
-
-  length-of : (t r : ℕ) → LengthCase p t r → LengthFits p t r
-  length-of t r (inl c) = record { global = λ g. (c .0 .0 .1, c .0 .1, c .1); local = λ g. absurd (true≢false (sym (c .0 .0 .0) ∙ g)) }
-  length-of t r (inr c) = record { global = λ g. absurd (true≢false (sym g ∙ c .0)); local = λ g. c .1 }
-
-  fits-of : (t r : ℕ) → Stands p t r → UseCase p t r → LengthFits p t r
-  fits-of t r s (inl c) = ⊎-elim (λ d. absurd (true≢false (sym (s .declared) ∙ d))) (length-of t r) (c .1)
-  fits-of t r s (inr c) = absurd (⊎-elim (λ d. omega (arith, d, s .task-there)) (λ d. omega (arith, d, s .resource-there)) (c .0))
-
-  one-of : (r j k : ℕ) → isGlobal p r ≡ false → Stands p j r → Stands p k r → OneCase p r → owner p j ≡ owner p k
-  one-of r j k l a b (inl g) = absurd (true≢false (sym g ∙ l))
-  one-of r j k l a b (inr f) =
-      ⊎-elim
-      (⊎-elim (λ d. absurd (true≢false (sym (a .declared) ∙ d))) (λ d. absurd (true≢false (sym (b .declared) ∙ d))))
-      (λ o. o)
-      (f j (a .task-there) k (b .task-there))
+      beyond : p .tasks ≤ t → lengthOf p t r ≡ 0
+      beyond h = absent (p .lengths) 512 (place t r) (shape .lengths-long) (λ l. A .no-length-task t r (omega arith) u h)
 
   uses-of : UsesFit p
   uses-of = record {
-    fits = λ t r s. fits-of t r s (use-at t r (omega (arith, s .resource-there, counts)));
-    no-length = λ t r u n. ⊎-elim (λ c. absurd (n (c .0 .0) (c .0 .1))) (λ c. c .1) (use-at t r u);
-    one-owner = λ r j k l a b. one-of r j k l a b (case .0 .1 r (a .resource-there));
+    fits = λ t r s. record {
+      global = λ g. (
+        A .global-length t r (s .task-there) (s .resource-there) (s .declared) g,
+        A .global-longest t r (s .task-there) (s .resource-there) (s .declared) g,
+        A .within-budget t r (s .task-there) (s .resource-there) (s .declared) g,
+      );
+      local = A .local-length t r (s .task-there) (s .resource-there) (s .declared);
+    };
+    no-length = no-length;
+    one-owner = λ r j k l a b.
+        A .one-subsystem r j k (a .resource-there) (a .task-there) (b .task-there) l (a .declared) (b .declared);
   }
 
   pub accepted-sound : Sound p
-  accepted-sound = record { shaped = shape; subsystems-fit = subsystems-of; tasks-fit = tasks-of; kinds-fit = kinds-of; uses-fit = uses-of }
+  unfolding period budget owner
+  accepted-sound = record {
+    shaped = shape;
+    periods-fit = rows-of (shape .periods-long) (A .subsystems-most) (λ s h. (A .period-whole s h, A .period-most s h)) (A .no-period);
+    budgets-fit = rows-of (shape .budgets-long) (A .subsystems-most) (λ s h. (A .budget-whole s h, A .budget-most s h)) (A .no-budget);
+    owners-fit = rows-of (shape .owners-long) (A .tasks-most) (A .owner-there) (A .no-owner);
+    kinds-fit = rows-of (shape .kinds-long) (A .resources-most) (A .kind-known) (A .no-kind);
+    uses-fit = uses-of;
+  }
 
 -- the entries of a plan are numbers of 16 bits and of bytes
 pub record Ranged (p : Plan) : Type 0 where
@@ -123,11 +72,15 @@ pub record Ranged (p : Plan) : Type 0 where
   pub kinds-small : (i : ℕ) → getD (p .kinds) i 0 < 256
   pub lengths-small : (i : ℕ) → getD (p .lengths) i 0 < 65536
 
+rows-small : (c : ℕ) {m : ℕ} {P : ℕ → ℕ → Type 0} {n : ℕ} {l : List ℕ} → RowsFit m P n l → 0 < c → ((k x : ℕ) → k < n → P k x → x < c)
+    → (i : ℕ) → getD l i 0 < c
+rows-small c {n = n} w some small i = ⊎-elim (λ h. small i _ h (w .fits i h)) (λ h. omega (arith, w .none i h)) (row-there i n)
+
 module _ (p : Plan) (w : Sound p) where
   -- a length is in range, or the mark of an undeclared pair, or 0
   length-small : (t r : ℕ) → r < 16 → lengthOf p t r < 65536
   unfolding declares
-  length-small t r u = go (there-or-not t (p .tasks)) (there-or-not r (p .resources)) (declares p t r) refl (isGlobal p r) refl
+  length-small t r u = go (row-there t (p .tasks)) (row-there r (p .resources)) (declares p t r) refl (isGlobal p r) refl
     where
       go : (t < p .tasks) ⊎ (p .tasks ≤ t) → (r < p .resources) ⊎ (p .resources ≤ r) → (c : Bool) → declares p t r ≡ c → (g : Bool) → isGlobal p r ≡ g
           → lengthOf p t r < 65536
@@ -145,24 +98,12 @@ module _ (p : Plan) (w : Sound p) where
 
   pub sound-ranged : Ranged p
   sound-ranged = record {
-    subsystems-few = w .subsystems-fit .few;
-    tasks-few = w .tasks-fit .few;
+    subsystems-few = w .periods-fit .few;
+    tasks-few = w .owners-fit .few;
     resources-few = w .kinds-fit .few;
-    periods-small = λ i. ⊎-elim
-        (λ h. omega (arith, w .subsystems-fit .fits i h))
-        (λ h. omega (arith, w .subsystems-fit .no-period i h))
-        (there-or-not i (p .subsystems));
-    budgets-small = λ i. ⊎-elim
-        (λ h. omega (arith, w .subsystems-fit .fits i h))
-        (λ h. omega (arith, w .subsystems-fit .no-budget i h))
-        (there-or-not i (p .subsystems));
-    owners-small = λ i. ⊎-elim
-        (λ h. omega (arith, w .tasks-fit .owned i h, w .subsystems-fit .few))
-        (λ h. omega (arith, w .tasks-fit .no-owner i h))
-        (there-or-not i (p .tasks));
-    kinds-small = λ i. ⊎-elim
-        (λ h. omega (arith, w .kinds-fit .kinded i h))
-        (λ h. omega (arith, w .kinds-fit .no-kind i h))
-        (there-or-not i (p .resources));
+    periods-small = rows-small 65536 (w .periods-fit) (omega arith) (λ k x h f. omega arith);
+    budgets-small = rows-small 65536 (w .budgets-fit) (omega arith) (λ k x h f. omega (arith, w .periods-fit .fits k h));
+    owners-small = rows-small 256 (w .owners-fit) (omega arith) (λ k x h f. omega (arith, w .periods-fit .few));
+    kinds-small = rows-small 256 (w .kinds-fit) (omega arith) (λ k x h f. omega arith);
     lengths-small = lengths-at;
   }

@@ -6,7 +6,7 @@ use mathlib.Core.List.{List}
 use Prim.Native.Nat.{ℕ, _+_, _≤_, _<_}
 use native.Mathlib.Nat.{not-suc-le-zero}
 use native.Mathlib.Omega.{arith}
-use lib.ListN.{length, getD, set}
+use lib.ListN.{length, getD, set, replicate}
 use lib.Seq.{getD-set-same, getD-set-other}
 use Rattle.below.proofs.Search.{last-or-before}
 use Rattle.plan.specs.declared.Plan.{Plan}
@@ -19,54 +19,37 @@ use Rattle.exactly.proofs.PlanShape.{zeros, shaped-empty, shaped-line, 
 use Rattle.exactly.proofs.ListedRows.{no-resource-yet}
 use Rattle.exactly.proofs.ListedTied.{kindSaid, Stands, Tied}
 use Rattle.exactly.proofs.ListedTests.{global-met, local-met}
-use Rattle.exactly.proofs.SoundPlan.{SubsystemsFit, TasksFit, KindsFit, LengthFits, UsesFit, Sound}
+use Rattle.exactly.proofs.SoundPlan.{RowsFit, PeriodFits, BudgetFits, OwnerFits, KindFits, LengthFits, UsesFit, Sound}
 
--- the tables with one more row
+-- the tables
 
-subsystems-more : (n : ℕ) (ps bs : List ℕ) (a b : ℕ) → SubsystemsFit n ps bs → length ps ≡ 8 → length bs ≡ 8 → n < 8
-    → (1 ≤ a) × (a ≤ 10000) × (1 ≤ b) × (b ≤ a) → SubsystemsFit (n + 1) (set ps n a) (set bs n b)
-subsystems-more n ps bs a b w lp lb u h = record {
-  few = omega arith;
-  fits = λ s v. ⊎-elim (here s) (before s) (last-or-before (omega arith));
-  no-period = λ s v. rw (getD-set-other ps n s a 0 (omega arith)) (w .no-period s (omega arith));
-  no-budget = λ s v. rw (getD-set-other bs n s b 0 (omega arith)) (w .no-budget s (omega arith));
-}
-  where
-    Fits : ℕ → Type 0
-    Fits s =
-        (1 ≤ getD (set ps n a) s 0) × (getD (set ps n a) s 0 ≤ 10000) × (1 ≤ getD (set bs n b) s 0) × (getD (set bs n b) s 0 ≤ getD (set ps n a) s 0)
+rows-empty : (m : ℕ) (P : ℕ → ℕ → Type 0) → RowsFit m P 0 (replicate m 0)
+rows-empty m P = record { few = omega arith; fits = λ k h. absurd (not-suc-le-zero h); none = λ k h. zeros m k }
 
-    here : (s : ℕ) → s ≡ n → Fits s
-    here s q = rw (q, getD-set-same ps n a 0 (omega arith), getD-set-same bs n b 0 (omega arith)) h
+module _ {m : ℕ} {P : ℕ → ℕ → Type 0} {n : ℕ} {l : List ℕ} (w : RowsFit m P n l) where
+  -- with one more row
+  rows-more : (v : ℕ) → length l ≡ m → n < m → P n v → RowsFit m P (n + 1) (set l n v)
+  rows-more v long room new = record {
+    few = omega arith;
+    fits = λ k h. ⊎-elim (here k) (before k) (last-or-before (omega arith));
+    none = λ k h. getD-set-other l n k v 0 (omega arith) ∙ w .none k (omega arith);
+  }
+    where
+      here : (k : ℕ) → k ≡ n → P k (getD (set l n v) k 0)
+      here k q = rw (q, getD-set-same l n v 0 (omega arith)) new
 
-    before : (s : ℕ) → s < n → Fits s
-    before s v = rw (getD-set-other ps n s a 0 (omega arith), getD-set-other bs n s b 0 (omega arith)) (w .fits s v)
+      before : (k : ℕ) → k < n → P k (getD (set l n v) k 0)
+      before k h = rw (getD-set-other l n k v 0 (omega arith)) (w .fits k h)
 
-tasks-more : (m n : ℕ) (os : List ℕ) (o : ℕ) → TasksFit m n os → length os ≡ 32 → n < 32 → o < m → TasksFit m (n + 1) (set os n o)
-tasks-more m n os o w l u h = record {
-  few = omega arith;
-  owned = λ t v. ⊎-elim (here t) (before t) (last-or-before (omega arith));
-  no-owner = λ t v. rw (getD-set-other os n t o 0 (omega arith)) (w .no-owner t (omega arith));
-}
-  where
-    here : (t : ℕ) → t ≡ n → getD (set os n o) t 0 < m
-    here t q = rw (q, getD-set-same os n o 0 (omega arith)) h
+  -- where what fits also fits otherwise
+  rows-as : (Q : ℕ → ℕ → Type 0) → ((k x : ℕ) → k < n → P k x → Q k x) → RowsFit m Q n l
+  rows-as Q f = record { few = w .few; fits = λ k h. f k (getD l k 0) h (w .fits k h); none = w .none }
 
-    before : (t : ℕ) → t < n → getD (set os n o) t 0 < m
-    before t v = rw (getD-set-other os n t o 0 (omega arith)) (w .owned t v)
-
-kinds-more : (n : ℕ) (ks : List ℕ) (k : ℕ) → KindsFit n ks → length ks ≡ 16 → n < 16 → k ≤ 1 → KindsFit (n + 1) (set ks n k)
-kinds-more n ks k w l u h = record {
-  few = omega arith;
-  kinded = λ r v. ⊎-elim (here r) (before r) (last-or-before (omega arith));
-  no-kind = λ r v. rw (getD-set-other ks n r k 0 (omega arith)) (w .no-kind r (omega arith));
-}
-  where
-    here : (r : ℕ) → r ≡ n → getD (set ks n k) r 0 ≤ 1
-    here r q = rw (q, getD-set-same ks n k 0 (omega arith)) h
-
-    before : (r : ℕ) → r < n → getD (set ks n k) r 0 ≤ 1
-    before r v = rw (getD-set-other ks n r k 0 (omega arith)) (w .kinded r v)
+-- one more budget, beside one more period
+budgets-more : (n : ℕ) (ps bs : List ℕ) (a b : ℕ) → RowsFit 8 (BudgetFits ps) n bs → length bs ≡ 8 → n < 8 → BudgetFits (set ps n a) n b
+    → RowsFit 8 (BudgetFits (set ps n a)) (n + 1) (set bs n b)
+budgets-more n ps bs a b w long room new =
+    rows-more (rows-as w (BudgetFits (set ps n a)) (λ k x h f. (f .0, rw (getD-set-other ps n k a 0 (omega arith)) (f .1)))) b long room new
 
 -- the pairs
 
@@ -89,7 +72,7 @@ module _ (p : Plan) (w : Sound p) where
       old t r s = record { task-there = s .task-there; resource-there = s .resource-there; declared = s .declared }
 
       same : (t : ℕ) → t < p .tasks → getD (set (p .budgets) (p .subsystems) b) (owner p t) 0 ≡ getD (p .budgets) (owner p t) 0
-      same t u = getD-set-other (p .budgets) (p .subsystems) (owner p t) b 0 (omega (arith, w .tasks-fit .owned t u))
+      same t u = getD-set-other (p .budgets) (p .subsystems) (owner p t) b 0 (omega (arith, w .owners-fit .fits t u))
 
       fits : (t r : ℕ) → Stands (withSubsystem p a b) t r → LengthFits (withSubsystem p a b) t r
       fits t r s = record {
@@ -125,7 +108,7 @@ module _ (p : Plan) (w : Sound p) where
       same-length t r s = resource-else p k t r room (omega (arith, s .resource-there)) (λ a e. omega (arith, s .resource-there))
 
       own : (t r : ℕ) → t < p .tasks → r ≡ p .resources → declares q t r ≡ false
-      own t r u e = rw e (declares-not q t (p .resources) (resource-own p k t (w .shaped) (w .tasks-fit .few) room u))
+      own t r u e = rw e (declares-not q t (p .resources) (resource-own p k t (w .shaped) (w .owners-fit .few) room u))
 
       old : (t r : ℕ) → Stands q t r → Stands p t r
       old t r s = ⊎-elim (λ e. absurd (true≢false (sym (s .declared) ∙ own t r (s .task-there) e))) kept (last-or-before (omega (arith, s .resource-there)))
@@ -171,7 +154,7 @@ uses-use p t r m w c = record { fits = fits; no-length = no-length; one-owner = 
     q = withUse p t r m
 
     new-length : lengthOf q t r ≡ m
-    new-length = use-own p t r m (w .shaped) (omega (arith, c .task-there, w .tasks-fit .few)) (omega (arith, c .resource-there, w .kinds-fit .few))
+    new-length = use-own p t r m (w .shaped) (omega (arith, c .task-there, w .owners-fit .few)) (omega (arith, c .resource-there, w .kinds-fit .few))
 
     -- a pair that is there now is the new one or was there before
     Old : ℕ → ℕ → Type 0
@@ -226,9 +209,10 @@ pub sound-empty : Sound emptyPlan
 unfolding emptyPlan lengthOf
 sound-empty = record {
   shaped = shaped-empty;
-  subsystems-fit = record { few = omega arith; fits = λ s h. absurd (not-suc-le-zero h); no-period = λ s h. zeros 8 s; no-budget = λ s h. zeros 8 s };
-  tasks-fit = record { few = omega arith; owned = λ t h. absurd (not-suc-le-zero h); no-owner = λ t h. zeros 32 t };
-  kinds-fit = record { few = omega arith; kinded = λ r h. absurd (not-suc-le-zero h); no-kind = λ r h. zeros 16 r };
+  periods-fit = rows-empty 8 PeriodFits;
+  budgets-fit = rows-empty 8 (BudgetFits (replicate 8 0));
+  owners-fit = rows-empty 32 (OwnerFits 0);
+  kinds-fit = rows-empty 16 KindFits;
   uses-fit = record {
     fits = λ t r s. absurd (not-suc-le-zero (s .task-there));
     no-length = λ t r u n. zeros 512 (place t r);
@@ -239,23 +223,24 @@ sound-empty = record {
 pub sound-line : (above : List Line) (last : ℕ) (p : Plan) (l : Line) → Tied above last p → ((c : ℕ) → Condition c above l)
     → kindSaid l ≤ 1 → Sound p → Sound (withLine p l)
 unfolding kindSaid withLine withSubsystem withTask withResource withUse
-sound-line above last p (Subsystem a b) t c k w = record {
-  shaped = shaped-line p (Subsystem a b) (w .shaped);
-  subsystems-fit =
-      subsystems-more (p .subsystems) (p .periods) (p .budgets) a b (w .subsystems-fit) (w .shaped .periods-long) (w .shaped .budgets-long)
-      (omega (arith, c 2, t .tables .subsystems-are))
-      (c 4);
-  tasks-fit = record { few = w .tasks-fit .few; owned = λ i h. omega (arith, w .tasks-fit .owned i h); no-owner = w .tasks-fit .no-owner };
-  kinds-fit = w .kinds-fit;
-  uses-fit = uses-subsystem p w a b;
-}
+sound-line above last p (Subsystem a b) t c k w =
+    let room : p .subsystems < 8 = omega (arith, c 2, t .tables .subsystems-are) in
+    record {
+      shaped = shaped-line p (Subsystem a b) (w .shaped);
+      periods-fit = rows-more (w .periods-fit) a (w .shaped .periods-long) room (c 4 .0, c 4 .1);
+      budgets-fit =
+          budgets-more (p .subsystems) (p .periods) (p .budgets) a b (w .budgets-fit) (w .shaped .budgets-long) room
+          (c 4 .2, rw (getD-set-same (p .periods) (p .subsystems) a 0 (omega (arith, w .shaped .periods-long))) (c 4 .3));
+      owners-fit = rows-as (w .owners-fit) (OwnerFits (p .subsystems + 1)) (λ i x h f. omega arith);
+      kinds-fit = w .kinds-fit;
+      uses-fit = uses-subsystem p w a b;
+    }
 sound-line above last p (Task s) t c k w = record {
   shaped = shaped-line p (Task s) (w .shaped);
-  subsystems-fit = w .subsystems-fit;
-  tasks-fit =
-      tasks-more (p .subsystems) (p .tasks) (p .owners) s (w .tasks-fit) (w .shaped .owners-long)
-      (omega (arith, c 2, t .tables .tasks-are))
-      (omega (arith, c 3, t .tables .subsystems-are));
+  periods-fit = w .periods-fit;
+  budgets-fit = w .budgets-fit;
+  owners-fit =
+      rows-more (w .owners-fit) s (w .shaped .owners-long) (omega (arith, c 2, t .tables .tasks-are)) (omega (arith, c 3, t .tables .subsystems-are));
   kinds-fit = w .kinds-fit;
   uses-fit = uses-task p w s (t .tables .resources-are ∙ no-resource-yet above s (c 1));
 }
@@ -263,15 +248,17 @@ sound-line above last p (Resource i) t c k w =
     let room : p .resources < 16 = omega (arith, c 2, t .tables .resources-are) in
     record {
       shaped = shaped-line p (Resource i) (w .shaped);
-      subsystems-fit = w .subsystems-fit;
-      tasks-fit = w .tasks-fit;
-      kinds-fit = kinds-more (p .resources) (p .kinds) i (w .kinds-fit) (w .shaped .kinds-long) room k;
+      periods-fit = w .periods-fit;
+      budgets-fit = w .budgets-fit;
+      owners-fit = w .owners-fit;
+      kinds-fit = rows-more (w .kinds-fit) i (w .shaped .kinds-long) room k;
       uses-fit = uses-resource p w i room;
     }
 sound-line above last p (Uses i r m) t c k w = record {
   shaped = shaped-line p (Uses i r m) (w .shaped);
-  subsystems-fit = w .subsystems-fit;
-  tasks-fit = w .tasks-fit;
+  periods-fit = w .periods-fit;
+  budgets-fit = w .budgets-fit;
+  owners-fit = w .owners-fit;
   kinds-fit = w .kinds-fit;
   uses-fit = uses-use p i r m w (use-meets above last p i r m t c);
 }

@@ -14,14 +14,15 @@ use Rattle.plan.specs.declared.Plan.{Plan}
 use Rattle.plan.specs.Plan.{place, lengthOf}
 use Rattle.plan.specs.Admission.{firstNegative, admitted}
 use Rattle.plan.specs.Accepted.{accepted}
+use Rattle.plan.proofs.Facts.{row-there, fits-admitted, accepted-facts}
 use Rattle.reader.specs.declared.Verdict.the-variants.{Accepted}
 use Rattle.reader.specs.declared.Reading.{Reading}
 use Rattle.reader.specs.Numbers.{isAccepted}
 use Rattle.reader.specs.Reading.{emptyPlan, readFrom, judgedWhole, reading}
 use Rattle.exactly.specs.TextOf.{texts, subsystemText, taskText, resourceText, useText, textOf}
-use Rattle.exactly.proofs.PlanShape.{Shaped, there-or-not}
+use Rattle.exactly.proofs.PlanShape.{Shaped}
 use Rattle.exactly.proofs.SoundPlan.{Sound}
-use Rattle.exactly.proofs.SoundFacts.{accepted-some, accepted-admitted, accepted-sound}
+use Rattle.exactly.proofs.SoundFacts.{accepted-sound}
 use Rattle.exactly.proofs.TextOfReads.{Reads, reads-then, reads-after}
 use Rattle.exactly.proofs.TextOfTables.{openedTo, openedTo-absent}
 use Rattle.exactly.proofs.TextOfRows.{tasksTo, resourcesTo, withLengths, reads-subsystems, reads-tasks, reads-resources}
@@ -33,7 +34,7 @@ module _ (p : Plan) (w : Sound p) where
   -- when all lengths are entered they are the plan's
 
   entered-pair : (t r : ℕ) → r < 16 → getD (enteredTo p (p .tasks)) (place t r) 0 ≡ lengthOf p t r
-  entered-pair t r h = go (there-or-not t (p .tasks)) (there-or-not r (p .resources))
+  entered-pair t r h = go (row-there t (p .tasks)) (row-there r (p .resources))
     where
       absent : (t < p .tasks → r < p .resources → ⊥) → getD (enteredTo p (p .tasks)) (place t r) 0 ≡ lengthOf p t r
       absent n =
@@ -108,7 +109,8 @@ whole-read p r e h = ap finished e ∙ h
 pub text-reads-back : (p : Plan) → Shaped p → accepted p ≡ true → reading (textOf p) ≡ record { verdict = Accepted; plan = p }
 unfolding reading finished
 text-reads-back p shape e =
-    let w = accepted-sound p shape e in
+    let A = accepted-facts p e in
+    let w = accepted-sound p shape A in
     rw (le-ltb 16384 (length (textOf p)) (text-long p w), reading)
     (whole-read p (readFrom (lines (textOf p)) 1 0 emptyPlan) (read-whole p w)
-    (whole-accepted p (accepted-some p shape e) (accepted-admitted p shape e)))
+    (whole-accepted p (A .some-subsystem) (fits-admitted p A)))

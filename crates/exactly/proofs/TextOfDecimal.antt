@@ -11,7 +11,7 @@ use lib.ListN.{length, getD}
 use borrow.Author.Tests.{lt-ltb, le-ltb, le-leb, ne-eqb}
 use Rattle.text.specs.declared.Number.the-variants.{Written}
 use Rattle.text.specs.Numbers.{isDigit, digits, isNumber, worth, number, decimalOnto, decimal}
-use Rattle.exactly.proofs.PlanShape.{there-or-not}
+use Rattle.plan.proofs.Facts.{row-there}
 
 -- bytes past the tab and the line feed
 abbrev pub Plain : List ℕ → Type 0
@@ -36,7 +36,7 @@ spelled P last more (suc d) n bs h =
     (λ u. rw (decimal-last d n bs u) (last n bs u))
     (λ u. rw (decimal-more d n bs u)
     (more n bs (decimalOnto d (n / 10) ((48 + n % 10) ∷ bs)) u (spelled P last more d (n / 10) ((48 + n % 10) ∷ bs) (omega arith))))
-    (there-or-not n 10)
+    (row-there n 10)
 
 module _ (n : ℕ) where
   pub decimal-plain : Plain (decimal n)

@@ -70,7 +70,7 @@ module _ (p : Plan) (w : Sound p) where
     where
       here : u ≡ t → getD (entered p t (p .resources) (enteredTo p t)) (place u r) 0 ≡ lengthOf p u r
       here q =
-          rw q (entered-there p t (p .resources) (enteredTo p t) (enteredTo-long t) (omega (arith, w .tasks-fit .few)) (w .kinds-fit .few) r x)
+          rw q (entered-there p t (p .resources) (enteredTo p t) (enteredTo-long t) (omega (arith, w .owners-fit .few)) (w .kinds-fit .few) r x)
 
       before : u < t → getD (enteredTo p t) (place u r) 0 ≡ lengthOf p u r → getD (entered p t (p .resources) (enteredTo p t)) (place u r) 0 ≡ lengthOf p u r
       before y e = entered-else p t (p .resources) (enteredTo p t) (w .kinds-fit .few) u r (omega (arith, w .kinds-fit .few)) (λ q z. omega arith) ∙ e

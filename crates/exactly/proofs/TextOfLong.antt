@@ -40,12 +40,13 @@ module _ (p : Plan) (w : Sound p) where
   subsystem-long : (i : ℕ) → i < p .subsystems → length (subsystemText p i) ≤ 14
   unfolding subsystemText bytes period budget
   subsystem-long i h =
-      let f = w .subsystems-fit .fits i h in
+      let f = w .periods-fit .fits i h in
+      let g = w .budgets-fit .fits i h in
       omega (
         arith,
         three-long (bytes "S") (decimal (period p i)) (decimal (budget p i)),
-        decimal-long (period p i) (omega (arith, f)),
-        decimal-long (budget p i) (omega (arith, f)),
+        decimal-long (period p i) (omega arith),
+        decimal-long (budget p i) (omega arith),
       )
 
   task-long : (i : ℕ) → i < p .tasks → length (taskText p i) ≤ 8
@@ -54,7 +55,7 @@ module _ (p : Plan) (w : Sound p) where
       omega (
         arith,
         two-long (bytes "T") (decimal (owner p i)),
-        decimal-long (owner p i) (omega (arith, w .tasks-fit .owned i h, w .subsystems-fit .few)),
+        decimal-long (owner p i) (omega (arith, w .owners-fit .fits i h, w .periods-fit .few)),
       )
 
   resource-long : (i : ℕ) → i < p .resources → length (resourceText p i) ≤ 4
@@ -74,7 +75,7 @@ module _ (p : Plan) (w : Sound p) where
           omega (
             arith,
             four-long (bytes "U") (decimal t) (decimal r) (decimal (lengthOf p t r)),
-            decimal-long t (omega (arith, w .tasks-fit .few)),
+            decimal-long t (omega (arith, w .owners-fit .few)),
             decimal-long r (omega (arith, w .kinds-fit .few)),
             decimal-long (lengthOf p t r) (omega (arith, sound-ranged p w .lengths-small (place t r))),
           )
@@ -89,8 +90,8 @@ module _ (p : Plan) (w : Sound p) where
         texts-long (p .tasks) 8 (taskText p) task-long,
         texts-long (p .resources) 4 (resourceText p) resource-long,
         texts-long (p .tasks) 320 (λ t. texts (p .resources) (useText p t)) uses-long,
-        w .subsystems-fit .few,
-        w .tasks-fit .few,
+        w .periods-fit .few,
+        w .owners-fit .few,
         w .kinds-fit .few,
       ))
     where

@@ -83,9 +83,9 @@ pub reads-fields : (k : ℕ) (f : List ℕ) (fs : List (List ℕ)) (p q : Plan) 
 reads-fields k f fs p q l pf pfs e kind w next =
     reads-line k (tabbed (f ∷ fs)) p q l (one-line f fs pf pfs) (line-of f fs pf pfs ∙ e) kind w next
 
-range-subsystem : (q : Plan) (a b : ℕ) → (1 ≤ a) × (a ≤ 10000) × (1 ≤ b) × (b ≤ a) → outOfRange q (Subsystem a b) ≡ false
+range-subsystem : (q : Plan) (a b : ℕ) → (1 ≤ a) × (a ≤ 10000) → (1 ≤ b) × (b ≤ a) → outOfRange q (Subsystem a b) ≡ false
 unfolding outOfRange
-range-subsystem q a b h = rw (le-leb 1 a (h .0), le-leb a 10000 (h .1), le-leb 1 b (h .2), le-leb b a (h .3))
+range-subsystem q a b h l = rw (le-leb 1 a (h .0), le-leb a 10000 (h .1), le-leb 1 b (l .0), le-leb b a (l .1))
 
 module _ (p : Plan) (w : Sound p) where
   -- the S lines
@@ -95,9 +95,9 @@ module _ (p : Plan) (w : Sound p) where
   subsystem-passes i h last u = record {
     grammar = refl;
     order = le-ltb 0 last u;
-    rows-left = lt-leb 8 i (omega (arith, w .subsystems-fit .few));
+    rows-left = lt-leb 8 i (omega (arith, w .periods-fit .few));
     rows-there = refl;
-    range = range-subsystem (subsystemsTo p i) (period p i) (budget p i) (w .subsystems-fit .fits i h);
+    range = range-subsystem (subsystemsTo p i) (period p i) (budget p i) (w .periods-fit .fits i h) (w .budgets-fit .fits i h);
     once = refl;
     one-subsystem = refl;
     within = refl;
@@ -110,11 +110,12 @@ module _ (p : Plan) (w : Sound p) where
   subsystem-reads : (i : ℕ) → i < p .subsystems → Reads 0 0 (subsystemText p i) (subsystemsTo p i) (subsystemsTo p (suc i))
   unfolding subsystemText kindOf bytes period budget
   subsystem-reads i h =
-      let f = w .subsystems-fit .fits i h in
+      let f = w .periods-fit .fits i h in
+      let g = w .budgets-fit .fits i h in
       reads-fields 0 (bytes "S") (decimal (period p i) ∷ decimal (budget p i) ∷ []) (subsystemsTo p i) (subsystemsTo p (suc i)) (Subsystem (period p i) (budget p i))
       (omega arith)
       (decimal-plain (period p i), (decimal-plain (budget p i), tt))
-      (subsystem-line (period p i) (budget p i) (omega (arith, f)) (omega (arith, f)))
+      (subsystem-line (period p i) (budget p i) (omega arith) (omega arith))
       refl
       (subsystem-passes i h)
       (subsystem-next i)
@@ -124,8 +125,8 @@ module _ (p : Plan) (w : Sound p) where
   unfolding subsystemsTo tasksTo
   subsystems-done =
       rw (
-        copied-whole (p .periods) 8 (p .subsystems) (w .shaped .periods-long) (w .subsystems-fit .few) (w .subsystems-fit .no-period),
-        copied-whole (p .budgets) 8 (p .subsystems) (w .shaped .budgets-long) (w .subsystems-fit .few) (w .subsystems-fit .no-budget),
+        copied-whole (p .periods) 8 (p .subsystems) (w .shaped .periods-long) (w .periods-fit .few) (w .periods-fit .none),
+        copied-whole (p .budgets) 8 (p .subsystems) (w .shaped .budgets-long) (w .budgets-fit .few) (w .budgets-fit .none),
       )
 
   pub reads-subsystems : Reads 0 0 (texts (p .subsystems) (subsystemText p)) emptyPlan (tasksTo p 0)
@@ -139,8 +140,8 @@ module _ (p : Plan) (w : Sound p) where
   task-passes i h last u = record {
     grammar = refl;
     order = le-ltb 1 last u;
-    rows-left = lt-leb 32 i (omega (arith, w .tasks-fit .few));
-    rows-there = lt-leb (p .subsystems) (owner p i) (w .tasks-fit .owned i h);
+    rows-left = lt-leb 32 i (omega (arith, w .owners-fit .few));
+    rows-there = lt-leb (p .subsystems) (owner p i) (w .owners-fit .fits i h);
     range = refl;
     once = refl;
     one-subsystem = refl;
@@ -157,14 +158,14 @@ module _ (p : Plan) (w : Sound p) where
       reads-fields 1 (bytes "T") (decimal (owner p i) ∷ []) (tasksTo p i) (tasksTo p (suc i)) (Task (owner p i))
       (omega arith)
       (decimal-plain (owner p i), tt)
-      (task-line (owner p i) (omega (arith, w .tasks-fit .owned i h, w .subsystems-fit .few)))
+      (task-line (owner p i) (omega (arith, w .owners-fit .fits i h, w .periods-fit .few)))
       refl
       (task-passes i h)
       (task-next i)
 
   tasks-done : tasksTo p (p .tasks) ≡ resourcesTo p 0
   unfolding tasksTo resourcesTo
-  tasks-done = rw (copied-whole (p .owners) 32 (p .tasks) (w .shaped .owners-long) (w .tasks-fit .few) (w .tasks-fit .no-owner))
+  tasks-done = rw (copied-whole (p .owners) 32 (p .tasks) (w .shaped .owners-long) (w .owners-fit .few) (w .owners-fit .none))
 
   pub reads-tasks : Reads 1 1 (texts (p .tasks) (taskText p)) (tasksTo p 0) (resourcesTo p 0)
   reads-tasks = rw tasks-done at (reads-texts 1 (p .tasks) (taskText p) (tasksTo p) task-reads)
@@ -205,7 +206,7 @@ module _ (p : Plan) (w : Sound p) where
     where
       go : (b : Bool) → isGlobal p i ≡ b → ofFields (bytes "R" ∷ elim b [ true ↦ bytes "G" | false ↦ bytes "L" ] ∷ []) ≡ Resource (kind i)
       go true e = global-line ∙ ap Resource (sym (eqb-true (kind i) 1 e))
-      go false e = local-line ∙ ap Resource (omega (arith, eqb-false (kind i) 1 e, w .kinds-fit .kinded i h))
+      go false e = local-line ∙ ap Resource (omega (arith, eqb-false (kind i) 1 e, w .kinds-fit .fits i h))
 
   resource-reads : (i : ℕ) → i < p .resources → Reads 2 2 (resourceText p i) (resourcesTo p i) (resourcesTo p (suc i))
   unfolding resourceText kindOf bytes
@@ -220,7 +221,7 @@ module _ (p : Plan) (w : Sound p) where
 
   resources-done : resourcesTo p (p .resources) ≡ withLengths p (openedTo (p .tasks) (p .resources))
   unfolding resourcesTo withLengths
-  resources-done = rw (copied-whole (p .kinds) 16 (p .resources) (w .shaped .kinds-long) (w .kinds-fit .few) (w .kinds-fit .no-kind))
+  resources-done = rw (copied-whole (p .kinds) 16 (p .resources) (w .shaped .kinds-long) (w .kinds-fit .few) (w .kinds-fit .none))
 
   pub reads-resources : Reads 2 2 (texts (p .resources) (resourceText p)) (resourcesTo p 0) (withLengths p (openedTo (p .tasks) (p .resources)))
   reads-resources = rw resources-done at (reads-texts 2 (p .resources) (resourceText p) (resourcesTo p) resource-reads)

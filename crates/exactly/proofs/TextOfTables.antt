@@ -10,8 +10,9 @@ use lib.Seq.{getD-set-same, getD-set-other, ext-getD}
 use Rattle.below.proofs.Search.{last-or-before}
 use Rattle.plan.specs.Limits.{undeclared}
 use Rattle.plan.specs.Plan.{place}
+use Rattle.plan.proofs.Facts.{row-there}
 use Rattle.reader.specs.Reading.{opened}
-use Rattle.exactly.proofs.PlanShape.{there-or-not, zeros, place-task, place-resource, length-opened, opened-at, opened-else}
+use Rattle.exactly.proofs.PlanShape.{zeros, place-task, place-resource, length-opened, opened-at, opened-else}
 
 -- the first i entries of a table of m, over zeros
 unfoldable pub copied : List ℕ → ℕ → ℕ → List ℕ
@@ -45,7 +46,7 @@ module _ (from : List ℕ) (m : ℕ) where
   copied-whole n l h z = ext-getD 0 (copied from m n) from (copied-long n ∙ sym l) (λ s u. same s)
     where
       same : (s : ℕ) → getD (copied from m n) s 0 ≡ getD from s 0
-      same s = ⊎-elim (copied-there n h s) (λ v. copied-past n s v ∙ sym (z s v)) (there-or-not s n)
+      same s = ⊎-elim (copied-there n h s) (λ v. copied-past n s v ∙ sym (z s v)) (row-there s n)
 
 -- the lengths when i resources are opened for n tasks
 unfoldable pub openedTo : ℕ → ℕ → List ℕ

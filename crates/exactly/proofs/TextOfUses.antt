@@ -17,12 +17,13 @@ use Rattle.text.specs.Numbers.{decimal}
 use Rattle.plan.specs.declared.Plan.{Plan}
 use Rattle.plan.specs.Limits.{undeclared}
 use Rattle.plan.specs.Plan.{budget, owner, isGlobal, place, lengthOf, declares}
+use Rattle.plan.proofs.Facts.{row-there}
 use Rattle.reader.specs.declared.Line.the-variants.{Uses}
 use Rattle.reader.specs.Line.{kindOf}
 use Rattle.reader.specs.Conditions.{notGrammar, kindOrder, tooManyRows, noSuchRow, outOfRange, twice, twoSubsystems, aboveBudget}
 use Rattle.reader.specs.Reading.{withLine, withUse}
 use Rattle.exactly.specs.TextOf.{tabbed, texts, useText}
-use Rattle.exactly.proofs.PlanShape.{there-or-not, declares-not, declares-same}
+use Rattle.exactly.proofs.PlanShape.{declares-not, declares-same}
 use Rattle.exactly.proofs.ListedTied.{Stands}
 use Rattle.exactly.proofs.SoundPlan.{LengthFits, Sound}
 use Rattle.exactly.proofs.SoundFacts.{sound-ranged}
@@ -56,7 +57,7 @@ module _ (p : Plan) (w : Sound p) where
     below-length k h u =
         entered-else p t n (enteredTo p t) (le-of-lt room) k n room (λ e v. omega arith)
         ∙ enteredTo-else p w t k n room (λ x y. omega arith)
-        ∙ openedTo-there (p .tasks) (p .resources) (w .tasks-fit .few) (w .kinds-fit .few) k n u hn
+        ∙ openedTo-there (p .tasks) (p .resources) (w .owners-fit .few) (w .kinds-fit .few) k n u hn
 
     module _ (d : declares p t n ≡ true) where
       stands : Stands p t n
@@ -86,7 +87,7 @@ module _ (p : Plan) (w : Sound p) where
 
       -- a task that declares this resource so far is of the same subsystem, if the resource is local
       not-other : isGlobal p n ≡ false → (k : ℕ) → k < p .tasks → (declares q k n && not (eqb (owner p k) (owner p t))) ≡ false
-      not-other l k u = ⊎-elim above below (there-or-not k t)
+      not-other l k u = ⊎-elim above below (row-there k t)
         where
           below : t ≤ k → (declares q k n && not (eqb (owner p k) (owner p t))) ≡ false
           below h = rw (declares-not q k n (below-length k h u))
@@ -135,7 +136,7 @@ module _ (p : Plan) (w : Sound p) where
           reads-fields 3 (bytes "U") (decimal t ∷ decimal n ∷ decimal (lengthOf p t n) ∷ []) q (before t (suc n)) (Uses t n (lengthOf p t n))
           (omega arith)
           (decimal-plain t, (decimal-plain n, (decimal-plain (lengthOf p t n), tt)))
-          (use-line t n (lengthOf p t n) (omega (arith, w .tasks-fit .few)) (omega arith) small)
+          (use-line t n (lengthOf p t n) (omega (arith, w .owners-fit .few)) (omega arith) small)
           refl
           passes
           next

@@ -23,7 +23,7 @@ use Rattle.image.specs.Words.{word, byteAt, wordAt}
 use Rattle.image.specs.Image.{imageBytes, subsystemBytes, taskBytes, joined, imageOf, taskByteAt, stateOf, isImage}
 use Rattle.image.specs.Pads.{subsystemPad, taskPad, padsZero}
 use Rattle.image.proofs.BlockLaws.{same-refl, same-true}
-use Rattle.image.proofs.Parts.{bytes-part}
+use Rattle.image.proofs.Parts.{word-again, bytes-part}
 use Rattle.image.proofs.Rows.{rows-part}
 use Rattle.image.proofs.ImageLaws.{pad-word, pad-byte}
 
@@ -79,14 +79,8 @@ module _ (b : List ℕ) where
   module _ (long : length b ≡ imageBytes) (small : (k : ℕ) → getD b k 0 < 256) where
     -- a word is written as the two bytes that it was read from
     word-of : (at i : ℕ) → word (wordAt b (at + i)) ≡ byteAt b (at + i) ∷ byteAt b (at + (i + 1)) ∷ []
-    unfolding word wordAt byteAt
-    word-of at i =
-        let x = getD b (at + i) 0 in
-        let y = getD b (at + i + 1) 0 in
-        let u : x < 256 = small (at + i) in
-        let low : (x + 256 * y) % 256 ≡ x = omega arith in
-        let high : (x + 256 * y) / 256 ≡ y = omega arith in
-        ap₂ (λ (l m : ℕ). l ∷ m ∷ []) low (high ∙ ap (λ (k : ℕ). getD b k 0) (add-assoc at i 1))
+    unfolding byteAt
+    word-of at i = word-again b (at + i) (small (at + i)) ∙ ap (λ (k : ℕ). getD b (at + i) 0 ∷ getD b k 0 ∷ []) (add-assoc at i 1)
 
     subsystem-row : (c : ℕ) → c < mostSubsystems → wordAt b (8 * c + 6) ≡ 0 → subsystemBytes (stateOf b) c ≡ take 8 (drop (0 + 8 * c) b)
     unfolding subsystemBytes listed listedOnto

@@ -27,6 +27,16 @@ subsystemWords-append (a ∷ ps) [] p q e = absurd (omega arith)
 subsystemWords-append (a ∷ ps) (b ∷ qs) p q e =
     ap (λ (r : List ℕ). word a ++ (word b ++ r)) (subsystemWords-append ps qs p q (omega arith))
 
+-- a word is written as the two bytes that it was read from
+pub word-again : (b : List ℕ) (k : ℕ) → getD b k 0 < 256 → word (wordAt b k) ≡ getD b k 0 ∷ getD b (k + 1) 0 ∷ []
+unfolding word wordAt byteAt
+word-again b k small =
+    let x = getD b k 0 in
+    let y = getD b (k + 1) 0 in
+    let low : (x + 256 * y) % 256 ≡ x = omega arith in
+    let high : (x + 256 * y) / 256 ≡ y = omega arith in
+    ap₂ (λ (l m : ℕ). l ∷ m ∷ []) low high
+
 -- what is read from a list of bytes is that part of the list
 
 module _ (b : List ℕ) (at : ℕ) where
@@ -40,20 +50,15 @@ module _ (b : List ℕ) (at : ℕ) where
   module _ (small : (k : ℕ) → getD b k 0 < 256) where
     -- one word more
     word-part : (j : ℕ) → at + j + 2 ≤ length b → take j (drop at b) ++ word (wordAt b (at + j)) ≡ take (j + 2) (drop at b)
-    unfolding word wordAt byteAt
     word-part j h =
         let d = drop at b in
         let e = length-drop at b in
-        let x = getD b (at + j) 0 in
-        let y = getD b (at + j + 1) 0 in
-        let u : x < 256 = small (at + j) in
-        let low : (x + 256 * y) % 256 ≡ x = omega arith in
-        let high : (x + 256 * y) / 256 ≡ y = omega arith in
         let next : at + j + 1 ≡ at + suc j = omega arith in
         let two : suc (suc j) ≡ j + 2 = omega arith in
-        ap₂ (λ (l m : ℕ). take j d ++ (l ∷ m ∷ []))
-        (low ∙ sym (getD-drop at b j 0))
-        (high ∙ ap (λ (k : ℕ). getD b k 0) next ∙ sym (getD-drop at b (suc j) 0))
+        ap (λ (l : List ℕ). take j d ++ l) (word-again b (at + j) (small (at + j)))
+        ∙ ap₂ (λ (l m : ℕ). take j d ++ (l ∷ m ∷ []))
+        (sym (getD-drop at b j 0))
+        (ap (λ (k : ℕ). getD b k 0) next ∙ sym (getD-drop at b (suc j) 0))
         ∙ sym (append-assoc (take j d) (getD d j 0 ∷ []) (getD d (suc j) 0 ∷ []))
         ∙ ap (λ (l : List ℕ). l ++ (getD d (suc j) 0 ∷ [])) (sym (take-suc d j 0 (omega arith)))
         ∙ sym (take-suc d (suc j) 0 (omega arith))

@@ -11,7 +11,6 @@ use Rattle.reader.specs.Numbers.{isAccepted}
 use Rattle.reader.specs.Reading.{reading}
 use Rattle.plan.specs.declared.Plan.{Plan}
 use Rattle.plan.specs.Limits.{mostSubsystems, mostTasks, mostResources}
-use Rattle.plan.specs.Plan.{period, budget}
 use Rattle.plan.specs.Accepted.{accepted}
 use Rattle.image.specs.Words.{word, words, byteAt, wordAt}
 

@@ -7,7 +7,7 @@ use borrow.Author.Tests.{eq-eqb}
 use Rattle.below.proofs.Search.{any-of, first-most}
 use Rattle.below.proofs.Tests.{and-of}
 use Rattle.plan.specs.declared.Plan.{Plan}
-use Rattle.plan.specs.Plan.{owner, declares, level, takenBefore, foremost}
+use Rattle.plan.specs.Plan.{owner, declares, level, takenBefore}
 use Rattle.plan.specs.Ceiling.{localCeiling, globalCeiling}
 use Rattle.plan.specs.Facts.{Accepted}
 use Rattle.plan.proofs.Order.{level-there, foremost-first}
@@ -27,8 +27,3 @@ module _ (p : Plan) (t r : ℕ) (there : t < p .tasks) (declared : declares p t 
   pub localCeiling-first : takenBefore p t (localCeiling p r) ≡ false
   unfolding localCeiling
   localCeiling-first = foremost-first p _ t there declared
-
-  -- it is at most each of them
-  pub localCeiling-most : localCeiling p r ≤ t
-  unfolding localCeiling foremost
-  localCeiling-most = first-most (p .tasks) _ t declared

@@ -182,7 +182,7 @@ module _ (p : Plan) where
   admitted-fits e s h =
       ltb-false (period p s) (demand p s) (first-before (p .subsystems) (λ s. ltb (period p s) (demand p s)) s (omega (arith, leb-true (p .subsystems) (firstNegative p) e)))
 
-  fits-admitted : Accepted p → admitted p ≡ true
+  pub fits-admitted : Accepted p → admitted p ≡ true
   unfolding admitted firstNegative
   fits-admitted A =
       le-leb (p .subsystems) _ (le-of-eq (sym (first-absent (p .subsystems) _ (λ s h. le-ltb (period p s) (demand p s) (A .fits s h)))))

@@ -1,5 +1,5 @@
 -- "Admission", its table: each refusal of a line, as a test over the plan read so far.
-use mathlib.Core.Bool.{Bool, true, false, not, _&&_, _||_, cond}
+use mathlib.Core.Bool.{Bool, false, not, _&&_, _||_, cond}
 use Prim.Native.Nat.{ℕ}
 use lib.Dec.{leb, ltb, eqb}
 use Rattle.below.specs.Below.{any}

@@ -1,9 +1,8 @@
 -- "The plan text", its table: a line is a letter and its fields.
-use mathlib.Core.Bool.{Bool, true, false}
+use mathlib.Core.Bool.{true, false}
 use mathlib.Core.List.{List, [], _∷_}
-use mathlib.Core.Option.{Option, none, some}
+use mathlib.Core.Option.{none, some}
 use Prim.Native.Nat.{ℕ}
-use Prim.Native.String.{String}
 use Rattle.text.specs.Bytes.{bytes, same}
 use Rattle.text.specs.Lines.{body, fields}
 use Rattle.text.specs.Numbers.{numbers, ofOne, ofTwo, ofThree}

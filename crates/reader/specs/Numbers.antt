@@ -1,6 +1,6 @@
 -- "Admission", its table: the number of each verdict, and the number returned beside it.
 use Prim.Native.Nat.{ℕ}
-use mathlib.Core.Bool.{Bool, true, false}
+use mathlib.Core.Bool.{Bool}
 use lib.Dec.{eqb}
 use lib.IntN.{ℤ, pos}
 use Rattle.reader.specs.declared.Verdict.{Verdict}

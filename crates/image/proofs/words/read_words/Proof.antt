@@ -1,25 +1,23 @@
 -- The loop's invariant: the entries passed are the numbers at their places. A place of number i ends within the steps of all.
 use denote.Ref.{now}
 use native.Mathlib.Omega.{arith}
-use borrow.Author.Needs.{needs}
-use mathlib.Core.Path.{_≡_, refl}
-use Prim.Native.Nat.{ℕ, _+_, _*_, _-_, _≤_, _<_}
-use lib.ListN.{length, getD, length-set}
-use borrow.Author.Count.{below-none}
-use Rattle.below.proofs.Listed.{filled-next, filled-ended}
+use mathlib.Core.Path.{refl}
+use Prim.Native.Nat.{_+_, _*_, _-_}
+use lib.ListN.{length}
+use Rattle.below.proofs.Listed.{Filled, filled-begun, filled-turn, filled-whole}
 use Rattle.image.specs.Words.{wordAt}
 use Rattle.image.proofs.WordLaws.{stepped}
 use Rattle.image.proofs.words.read_words.Statement.{statement}
 use Rattle.image.proofs.words.read_words.Tie as tie
 
 abbrev Inv-loop : tie.InvT-loop
-Inv-loop b at step out₀ i₀ out i = (i ≤ length out₀) × (length out ≡ length out₀) × ((k : ℕ) → k < i → getD out k 0 ≡ wordAt b (at + step * k))
+Inv-loop b at step out₀ i₀ out i = Filled (length out₀) (λ k. wordAt b (at + step * k)) 0 out i
 
 abbrev μ-loop : tie.MeasureT-loop
 μ-loop b at step out₀ i₀ out i = length out₀ - i
 
 loop-holds : tie.Need-loop-holds Inv-loop μ-loop
-loop-holds c = (search needs, refl, below-none _)
+loop-holds c = filled-begun refl (omega arith)
 
 mul-word-at : tie.Need-mul-word-at Inv-loop μ-loop
 mul-word-at c =
@@ -52,13 +50,13 @@ loop-less : tie.Need-loop-less Inv-loop μ-loop
 loop-less c = omega arith
 
 loop-again : tie.Need-loop-again Inv-loop μ-loop
-loop-again c = (omega arith, simp length-set (c .before .before .loop .inv .1), filled-next _ 0 (c .before .before .loop .out) _ _ (c .before .loop-test .taken) (c .word-at .ensures) (c .before .before .loop .inv .2))
+loop-again c = filled-turn (c .before .before .loop .inv) (omega arith) (c .word-at .ensures)
 
 same-length : tie.Need-same-length Inv-loop μ-loop
-same-length c = c .before .loop .inv .1
+same-length c = c .before .loop .inv .sized
 
 returns : tie.Need-returns Inv-loop μ-loop
-returns c = filled-ended _ _ _ 0 (c .before .loop .out) (omega arith) (c .before .loop .inv .1) (c .before .loop .inv .2)
+returns c = filled-whole (c .before .loop .inv) (omega arith)
 
 pub read-words-spec : {M : Type 1} → statement M
 read-words-spec =

@@ -1,25 +1,22 @@
 -- The loop's invariant: the entries passed are the ceilings.
 use native.Mathlib.Omega.{arith}
 use borrow.Author.Needs.{needs}
-use mathlib.Core.Path.{_≡_}
 use mathlib.Core.List.{[]}
-use Prim.Native.Nat.{ℕ, _≤_, _<_, _-_}
-use lib.ListN.{length, getD}
-use borrow.Author.Count.{below-none}
-use Rattle.below.proofs.Listed.{filled-next, filled-ended}
+use Prim.Native.Nat.{_-_}
+use Rattle.below.proofs.Listed.{Filled, filled-begun, filled-turn, filled-whole}
 use Rattle.plan.specs.Ceiling.{ceiling}
 use Rattle.plan.specs.Lent.{lent}
 use Rattle.plan.proofs.ceiling.ceilings_of.Statement.{statement}
 use Rattle.plan.proofs.ceiling.ceilings_of.Tie as tie
 
 abbrev Inv-loop : tie.InvT-loop
-Inv-loop owners kinds lengths subsystems tasks all₀ r₀ all r = (r ≤ 16) × (length all ≡ 16) × ((k : ℕ) → k < r → getD all k 0 ≡ ceiling (lent subsystems tasks 0 [] [] owners kinds lengths) k)
+Inv-loop owners kinds lengths subsystems tasks all₀ r₀ all r = Filled 16 (ceiling (lent subsystems tasks 0 [] [] owners kinds lengths)) 0 all r
 
 abbrev μ-loop : tie.MeasureT-loop
 μ-loop owners kinds lengths subsystems tasks all₀ r₀ all r = 16 - r
 
 loop-holds : tie.Need-loop-holds Inv-loop μ-loop
-loop-holds c = (search needs, search needs, below-none _)
+loop-holds c = filled-begun (search needs) (omega arith)
 
 ceiling-of-requires : tie.Need-ceiling-of-requires Inv-loop μ-loop
 ceiling-of-requires c κs = search needs
@@ -37,12 +34,10 @@ loop-less : tie.Need-loop-less Inv-loop μ-loop
 loop-less c = omega arith
 
 loop-again : tie.Need-loop-again Inv-loop μ-loop
-loop-again c =
-    let h : c .before .before .loop .r < length (c .before .before .loop .all) = omega arith in
-    (omega arith, search needs, filled-next _ 0 (c .before .before .loop .all) _ _ h (c .ceiling-of .ensures) (c .before .before .loop .inv .2))
+loop-again c = filled-turn (c .before .before .loop .inv) (c .before .loop-test .taken) (c .ceiling-of .ensures)
 
 returns : tie.Need-returns Inv-loop μ-loop
-returns c = filled-ended _ _ _ 0 (c .before .loop .all) (c .loop-test .left) (c .before .loop .inv .1) (c .before .loop .inv .2)
+returns c = filled-whole (c .before .loop .inv) (c .loop-test .left)
 
 pub ceilings-of-spec : {M : Type 1} → statement M
 ceilings-of-spec =
