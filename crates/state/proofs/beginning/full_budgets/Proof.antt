@@ -1,12 +1,11 @@
 -- The loop's invariant: every subsystem passed has its budget.
 use native.Mathlib.Omega.{arith}
 use borrow.Author.Needs.{needs}
-use mathlib.Core.Path.{_≡_, ap}
+use mathlib.Core.Path.{ap}
 use mathlib.Core.List.{List}
-use Prim.Native.Nat.{ℕ, _≤_, _<_, _-_}
-use lib.ListN.{length, getD}
-use borrow.Author.Count.{below-none}
-use Rattle.below.proofs.Listed.{filled-next, filled-ended}
+use Prim.Native.Nat.{ℕ, _-_}
+use lib.ListN.{getD}
+use Rattle.below.proofs.Listed.{Filled, filled-begun, filled-turn, filled-whole}
 use Rattle.state.specs.declared.BudgetLeft.{BudgetLeft}
 use Rattle.state.proofs.beginning.full_budgets.Statement.{statement}
 use Rattle.state.proofs.beginning.full_budgets.Tie as tie
@@ -15,13 +14,13 @@ abbrev budgetAt : List ℕ → ℕ → BudgetLeft
 budgetAt budgets k = record { 0 = getD budgets k 0 }
 
 abbrev Inv-loop : tie.InvT-loop
-Inv-loop budgets left₀ c₀ left c = (c ≤ 8) × (length left ≡ 8) × ((k : ℕ) → k < c → getD left k (record { 0 = 0 }) ≡ budgetAt budgets k)
+Inv-loop budgets left₀ c₀ left c = Filled 8 (budgetAt budgets) (record { 0 = 0 }) left c
 
 abbrev μ-loop : tie.MeasureT-loop
 μ-loop budgets left₀ c₀ left c = 8 - c
 
 loop-holds : tie.Need-loop-holds Inv-loop μ-loop
-loop-holds c = (search needs, search needs, below-none _)
+loop-holds c = filled-begun (search needs) (omega arith)
 
 cast-word-at : tie.Need-cast-word-at Inv-loop μ-loop
 cast-word-at c = omega arith
@@ -45,12 +44,10 @@ loop-less : tie.Need-loop-less Inv-loop μ-loop
 loop-less c = omega arith
 
 loop-again : tie.Need-loop-again Inv-loop μ-loop
-loop-again c = let l = c .before .before .loop in
-    let h : l .c < length (l .left) = omega arith in
-    (omega arith, search needs, filled-next _ (record { 0 = 0 }) (l .left) _ _ h (ap (λ (n : ℕ). record { 0 = n }) (c .word-at .ensures)) (l .inv .2))
+loop-again c = filled-turn (c .before .before .loop .inv) (c .before .loop-test .taken) (ap (λ (n : ℕ). record { 0 = n }) (c .word-at .ensures))
 
 returns : tie.Need-returns Inv-loop μ-loop
-returns c = filled-ended _ _ _ (record { 0 = 0 }) (c .before .loop .left) (c .loop-test .left) (c .before .loop .inv .1) (c .before .loop .inv .2)
+returns c = filled-whole (c .before .loop .inv) (c .loop-test .left)
 
 pub full-budgets-spec : {M : Type 1} → statement M
 full-budgets-spec =
