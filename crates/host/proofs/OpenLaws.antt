@@ -1,15 +1,15 @@
 -- What is known once a block and an image were opened together.
 use mathlib.Core.Path.{_≡_, refl, sym, ap, _∙_}
-use mathlib.Core.Bool.{Bool, true, false, _&&_}
+use mathlib.Core.Bool.{Bool, true, false}
 use mathlib.Core.List.{List}
 use Prim.Native.Nat.{ℕ}
 use lib.Dec.{eqb}
 use lib.ListN.{length}
 use native.Mathlib.Omega.{arith}
-use borrow.Author.Tests.{eq-eqb, ne-eqb, eqb-true}
+use borrow.Author.Tests.{eq-eqb, eqb-true}
 use Rattle.below.specs.Listed.{listed}
 use Rattle.below.proofs.Listed.{length-listed}
-use Rattle.below.proofs.Tests.{clash, conjuncts}
+use Rattle.below.proofs.Tests.{conjuncts}
 use Rattle.plan.specs.declared.Plan.{Plan}
 use Rattle.plan.specs.Accepted.{accepted}
 use Rattle.plan.specs.Ceiling.{ceiling}
@@ -17,7 +17,7 @@ use Rattle.state.specs.declared.State.{State}
 use Rattle.state.specs.Sized.{Sized}
 use Rattle.legal.specs.Legal.{legal}
 use Rattle.image.specs.declared.Opened.{Opened}
-use Rattle.image.specs.Block.{blockBytes, isBlock, planOf}
+use Rattle.image.specs.Block.{isBlock, planOf}
 use Rattle.image.specs.Image.{imageBytes, isImage, stateOf, imageOf}
 use Rattle.image.specs.Opening.{bothLong, openedNumber, openedRefused, opened, imageWritten}
 

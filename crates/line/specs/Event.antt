@@ -1,7 +1,7 @@
 -- "The run program": an event line is a name and exactly the numbers that its kind uses, written and parted as in the plan text.
-use mathlib.Core.Bool.{Bool, true, false}
+use mathlib.Core.Bool.{true, false}
 use mathlib.Core.List.{List, [], _∷_}
-use mathlib.Core.Option.{Option, none, some}
+use mathlib.Core.Option.{none, some}
 use Prim.Native.Nat.{ℕ}
 use Rattle.text.specs.Bytes.{bytes, same}
 use Rattle.text.specs.Lines.{body, fields}

@@ -1,5 +1,5 @@
 -- "Easy to get wrong": a length equal to the budget left is granted, at a lock and at step (b) of a tick. Document 01's run never meets the case.
-use mathlib.Core.Path.{_≡_, refl, sym}
+use mathlib.Core.Path.{_≡_, refl}
 use mathlib.Core.Bool.{Bool, true, false}
 use Prim.Native.Nat.{ℕ}
 use native.Mathlib.Nat.{le-of-eq}

@@ -20,7 +20,7 @@ use Rattle.run.specs.declared.stream.Stream.{Stream}
 use Rattle.run.specs.declared.stream.Fed.{Fed}
 use Rattle.run.specs.Lined.{LinePut}
 use Rattle.run.specs.Stream.{At, isGoing}
-use Rattle.run.specs.Fed.{Taken, keptOf, atOf, takenOf, lineTaken, fromPlace, firstLine, lineStart, wholeLine}
+use Rattle.run.specs.Fed.{keptOf, atOf, takenOf, lineTaken, fromPlace, firstLine, lineStart, wholeLine}
 use Rattle.run.proofs.Going.{done-going, printed-going}
 use Rattle.run.proofs.KeptBytes.{none-of}
 use Rattle.run.proofs.LineSteps.{line-lent}

@@ -1,8 +1,7 @@
 -- A line of a report has at most 128 bytes.
-use mathlib.Core.Path.{_≡_}
 use mathlib.Core.Bool.{Bool, true, false, cond, _&&_}
-use mathlib.Core.List.{List, [], _∷_}
-use Prim.Native.Nat.{ℕ, _+_, _*_, _^_, _≤_, _<_}
+use mathlib.Core.List.{[], _∷_}
+use Prim.Native.Nat.{ℕ, _*_, _^_, _≤_, _<_}
 use native.Mathlib.Nat.{div-le-self, lt-of-le-of-lt}
 use native.Mathlib.Omega.{arith}
 use lib.Dec.{ltb, leb}

@@ -1,6 +1,6 @@
 -- "The run program": what a piece of an event file gives, as far as the buffer goes. Its lines are taken one after the other, up to the first whose
 -- printed line has no room: the rest of the piece is fed again once the buffer was emptied.
-use mathlib.Core.Bool.{Bool, true, false}
+use mathlib.Core.Bool.{true, false}
 use mathlib.Core.List.{List, [], _∷_}
 use Prim.Native.Nat.{ℕ, _+_, _≤_}
 use lib.ListN.{length, take, drop}

@@ -1,6 +1,6 @@
 -- "The run program", one line: an event line on a state, with its printed line behind the fill of a buffer. 33 keeps state and buffer.
 use mathlib.Core.Path.{_≡_}
-use mathlib.Core.Bool.{Bool, true, false}
+use mathlib.Core.Bool.{true, false}
 use mathlib.Core.List.{List}
 use Prim.Native.Nat.{ℕ, _+_}
 use lib.ListN.{length}

@@ -1,5 +1,5 @@
 -- The admission report of a plan text, line by line.
-use mathlib.Core.Bool.{Bool, true, false}
+use mathlib.Core.Bool.{true, false}
 use mathlib.Core.List.{List, [], _∷_}
 use Prim.Native.Nat.{ℕ, zero, suc, _+_}
 use Rattle.plan.specs.declared.Plan.{Plan}

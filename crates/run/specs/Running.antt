@@ -1,5 +1,5 @@
 -- "The run program": the printed lines of a whole run, each for itself. A run into a buffer writes them one behind the other, as far as it goes.
-use mathlib.Core.Bool.{Bool, true, false}
+use mathlib.Core.Bool.{true, false}
 use mathlib.Core.List.{List, [], _∷_}
 use Prim.Native.Nat.{ℕ, _+_}
 use lib.ListN.{take}

@@ -13,7 +13,7 @@ use Rattle.exactly.proofs.Sound.{read-accepted}
 use Rattle.state.proofs.Fresh.{fresh-sized}
 use Rattle.legal.proofs.Fresh.{fresh-legal}
 use Rattle.step.specs.declared.Rows.{Rows}
-use Rattle.step.specs.Lent.{rowsOf, Lent}
+use Rattle.step.specs.Lent.{rowsOf}
 use Rattle.run.specs.declared.stream.Stream.{Stream}
 use Rattle.run.specs.Stream.{At, start}
 use Rattle.run.specs.Fed.{atOf}

@@ -1,4 +1,4 @@
 pub mod FirstState
 pub mod Wrote
-pub mod InMemory
+pub mod Bounds
 pub mod Through

@@ -29,11 +29,14 @@ module _ (out : List ℕ) (fill : ℕ) (t : List ℕ) (h : fill + length t ≤ l
   unfolding hasRoom
   has-room = le-leb (length t) (length (drop fill out)) (rw length-drop (omega arith))
 
-  after-length : length (outAfter out fill t) ≡ length out
+  pub after-length : length (outAfter out fill t) ≡ length out
   after-length = rw after (simp (length-append, length-take, length-drop) (omega arith))
 
   pub after-take : take (fill + length t) (outAfter out fill t) ≡ take fill out ++ t
   after-take = rw after (take-at (take fill out ++ t) _ _ front-length)
+
+pub room-fits : (out : List ℕ) (fill : ℕ) (t : List ℕ) → fill ≤ length out → hasRoom out fill t ≡ true → fill + length t ≤ length out
+room-fits out fill t h e = let k : length t ≤ length out - fill = rw length-drop at (leb-true (length t) (length (drop fill out)) (unfold hasRoom in e)) in omega arith
 
 -- all of a text was taken
 pub record Wrote (p : Plan) (x : At) (t out : List ℕ) (fill : ℕ) (w : Taken) : Type 0 where
@@ -78,24 +81,9 @@ module _ (p : Plan) (x : At) (l : List ℕ) (ls : List (List ℕ)) (t out : List
             ∙ ap (λ (u : List ℕ). take fill out ++ u) (sym both);
       })
 
-  -- the first has room where both have
-  first-fits : fill + length (fedPrinted p x (l ++ t)) ≤ length out → fill + length first ≤ length out
-  first-fits h = omega (arith, both-long)
-
-  rest-fits : fill + length (fedPrinted p x (l ++ t)) ≤ length out → fill + length first + length rest ≤ length (outAfter out fill first)
-  rest-fits h = omega (arith, both-long, after-length out fill first (first-fits h))
-
 nothing-wrote : (p : Plan) (x : At) (out : List ℕ) (fill : ℕ) → Wrote p x [] out fill (nothing x out fill)
 unfolding nothing fed fedPrinted
 nothing-wrote p x out fill = record { stands = refl; filled = omega arith; long = refl; front = sym (append-nil _) }
-
-lines-wrote : (p : Plan) (ls : List (List ℕ)) (x : At) (out : List ℕ) (fill : ℕ) → fill + length (fedPrinted p x (inOne ls)) ≤ length out
-    → Wrote p x (inOne ls) out fill (linesTaken p x ls out fill)
-unfolding inOne linesTaken
-lines-wrote p [] x out fill h = nothing-wrote p x out fill
-lines-wrote p (l ∷ ls) x out fill h =
-    line-wrote p x l ls (inOne ls) out fill (first-fits p x l ls (inOne ls) out fill h)
-    (lines-wrote p ls (fed p x l) _ _ (rest-fits p x l ls (inOne ls) out fill h))
 
 -- as far as there was room: a front of the text was taken
 pub record Part (p : Plan) (x : At) (t out : List ℕ) (fill : ℕ) (w : Taken) : Type 0 where
@@ -108,9 +96,6 @@ pub record Part (p : Plan) (x : At) (t out : List ℕ) (fill : ℕ) (w : Taken) 
 module _ (p : Plan) (x : At) (l : List ℕ) (ls : List (List ℕ)) (out : List ℕ) (fill : ℕ) where
   abbrev printed : List ℕ
   printed = fedPrinted p x l
-
-  line-fits : fill ≤ length out → hasRoom out fill printed ≡ true → fill + length printed ≤ length out
-  line-fits h e = let k : length printed ≤ length out - fill = rw length-drop at (leb-true (length printed) (length (drop fill out)) (unfold hasRoom in e)) in omega arith
 
   line-part : fill + length printed ≤ length out → Part p (fed p x l) (inOne ls) (outAfter out fill printed) (fill + length printed) (linesTaken p (fed p x l) ls (outAfter out fill printed) (fill + length printed))
       → Part p x (l ++ inOne ls) out fill (linesTaken p x (l ∷ ls) out fill)
@@ -144,7 +129,7 @@ lines-part p (l ∷ ls) x out fill h = go (hasRoom out fill (fedPrinted p x l)) 
         → Part p (fed p x l) (inOne ls) (outAfter out fill (fedPrinted p x l)) (fill + length (fedPrinted p x l)) (linesTaken p (fed p x l) ls (outAfter out fill (fedPrinted p x l)) (fill + length (fedPrinted p x l))))
         → Part p x (l ++ inOne ls) out fill (linesTaken p x (l ∷ ls) out fill)
     go true e ih =
-        let k = line-fits p x l ls out fill h e in
+        let k = room-fits out fill (fedPrinted p x l) h e in
         line-part p x l ls out fill k (ih (omega (arith, after-length out fill (fedPrinted p x l) k)))
     go false e ih = subst (Part p x (l ++ inOne ls) out fill) (sym (stop p x l ls out fill e)) (nothing-part p x (l ++ inOne ls) out fill)
 
@@ -162,11 +147,6 @@ joined-lines (b ∷ bs) = go (eqb b lineFeed) (lines bs) (joined-lines bs)
     go : (c : Bool) (ls : List (List ℕ)) → inOne ls ≡ bs → inOne (elim c [ true ↦ (b ∷ []) ∷ ls | false ↦ onto b ls ]) ≡ b ∷ bs
     go true ls e = ap (λ (u : List ℕ). b ∷ u) e
     go false ls e = onto-joined b ls ∙ ap (λ (u : List ℕ). b ∷ u) e
-
-pub piece-wrote : (p : Plan) (x : At) (t out : List ℕ) (fill : ℕ) → fill + length (fedPrinted p x t) ≤ length out → Wrote p x t out fill (pieceTaken p x t out fill)
-unfolding pieceTaken
-piece-wrote p x t out fill h =
-    subst (λ (u : List ℕ). Wrote p x u out fill (linesTaken p x (lines t) out fill)) (joined-lines t) (lines-wrote p (lines t) x out fill (rw (joined-lines t) h))
 
 pub piece-part : (p : Plan) (x : At) (t out : List ℕ) (fill : ℕ) → fill ≤ length out → Part p x t out fill (pieceTaken p x t out fill)
 unfolding pieceTaken

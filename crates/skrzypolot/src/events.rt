@@ -7,12 +7,13 @@ ghost use Rattle.io.specs.Counts.{Counts};
 ghost use Rattle.plan.specs.Facts.{Accepted};
 ghost use Rattle.reader.specs.Numbers.{isAccepted};
 ghost use Rattle.skrzypolot.specs.Went.{Running};
-use crate::memory::refusal_of;
 use crate::pieces::answer_end;
 use crate::pieces::answer_piece;
 use files::read_file;
 use files::read_piece;
 use files::write_out;
+use line::Filled;
+use line::print_refusal;
 use reader::Reading;
 use reader::Verdict;
 use run::stream::Stream;
@@ -92,11 +93,12 @@ fn run_pieces(
 // The line of a refused plan.
 fn print_refused(v: Verdict) {
     let mut out = [0u8; 128];
-    let n = refusal_of(
-        reader::numbers::number(v),
-        reader::numbers::beside(v),
-        &mut out,
-    );
+    let number = reader::numbers::number(v);
+    let beside = reader::numbers::beside(v);
+    let filled = print_refusal(&mut out, 0, number, beside);
+    let Filled::Fill(n) = filled else {
+        return;
+    };
     write_out(&out[..n]);
 }
 

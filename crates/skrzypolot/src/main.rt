@@ -1,7 +1,6 @@
 // skrzypolot PLAN EVENTS: prints a line an event, or the refusal of the plan ("The run program"). Without arguments it runs plan P of document 01.
 // What cannot be opened or read is named on standard error, and then nothing is printed. The event file is read in pieces, and never held whole.
 mod events;
-mod memory;
 mod pieces;
 
 use files::write_out;
@@ -10,11 +9,13 @@ use libc::STDERR_FILENO;
 // Plan P and its events.
 fn run_sample() {
     let mut out = [0u8; 1024];
-    let n = memory::run_text(
+    let r = run::run(
         b"S\t10\t4\nS\t20\t6\nT\t0\nT\t0\nT\t1\nR\tG\nR\tL\nU\t0\t0\t2\nU\t0\t1\t0\nU\t1\t1\t0\nU\t2\t0\t3\n",
         b"release\t2\ntick\nrelease\t1\nlock\t1\t1\nrelease\t0\ntick\ntick\nunlock\t1\t1\nlock\t0\t0\ntick\nlock\t2\t0\ntick\ntick\ntick\ntick\nend\t2\ntick\ntick\ntick\n",
         &mut out,
+        0,
     );
+    let n = r.fill;
     write_out(&out[..n]);
 }
 

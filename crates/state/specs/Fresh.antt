@@ -1,5 +1,4 @@
 -- "State", fresh: all tasks idle, full budgets, full periods to go.
-use Prim.Native.Nat.{ℕ}
 use lib.ListN.{replicate}
 use Rattle.below.specs.Listed.{listed}
 use Rattle.plan.specs.declared.Plan.{Plan}

@@ -1,5 +1,5 @@
 -- "Events": release, lock, unlock and end, once no refusal applies.
-use mathlib.Core.Bool.{Bool, true, false, cond}
+use mathlib.Core.Bool.{Bool, true, false}
 use Prim.Native.Nat.{ℕ}
 use lib.Dec.{leb}
 use Rattle.plan.specs.declared.Plan.{Plan}

@@ -1,5 +1,5 @@
 -- "Events": what an event gives, refusals too. "Calls from C": 31 and 32 come first, then 11, then the event's own.
-use mathlib.Core.Bool.{Bool, true, false, cond}
+use mathlib.Core.Bool.{true, false}
 use Prim.Native.Nat.{ℕ}
 use lib.Dec.{eqb}
 use Rattle.plan.specs.declared.Plan.{Plan}

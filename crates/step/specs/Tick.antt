@@ -1,12 +1,11 @@
 -- "Events", tick: (a) to (d).
-use mathlib.Core.Bool.{Bool, true, false, not, _&&_}
+use mathlib.Core.Bool.{Bool, true, false, _&&_}
 use Prim.Native.Nat.{ℕ, zero, suc, _+_, _-_, _^_}
 use lib.Dec.{leb, ltb, eqb}
 use Rattle.below.specs.Listed.{listed}
 use Rattle.plan.specs.declared.Plan.{Plan}
 use Rattle.plan.specs.Limits.{mostSubsystems, noRow}
 use Rattle.plan.specs.Plan.{period, budget, owner}
-use Rattle.state.specs.declared.BudgetLeft.{BudgetLeft}
 use Rattle.state.specs.declared.State.{State}
 use Rattle.state.specs.State.{taskAt, leftOf, refillOf, usedOf, isWaiting, inSection, sectionLeft}
 use Rattle.state.specs.Update.{withTask, withLeft, withUsed, started}

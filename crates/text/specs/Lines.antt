@@ -1,5 +1,5 @@
 -- "The plan text": one record a line, fields parted by one tab, each line ended by a line feed. Event files are written the same way.
-use mathlib.Core.Bool.{Bool, true, false}
+use mathlib.Core.Bool.{true, false}
 use mathlib.Core.List.{List, [], _∷_}
 use mathlib.Core.Option.{Option, none, some, Option·map}
 use Prim.Native.Nat.{ℕ, zero, suc}

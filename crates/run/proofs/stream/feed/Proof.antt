@@ -4,7 +4,6 @@ use mathlib.Core.Path.{_≡_, refl, _∙_}
 use Prim.Native.Nat.{_+_, _-_, _≤_}
 use native.Mathlib.Omega.{arith}
 use lib.ListN.{length, drop, length-drop}
-use borrow.Author.Needs.{needs}
 use Rattle.plan.specs.declared.Plan.{Plan}
 use Rattle.step.specs.Lent.{Lent}
 use Rattle.line.proofs.Parts.{to-end}

@@ -2,7 +2,7 @@
 use mathlib.Core.Path.{sym}
 use lib.Seq.{length-take-le}
 use borrow.Author.Needs.{needs}
-use Rattle.skrzypolot.proofs.InMemory.{within}
+use Rattle.skrzypolot.proofs.Bounds.{within}
 use Rattle.skrzypolot.proofs.pieces.answer_end.Statement.{statement}
 use Rattle.skrzypolot.proofs.pieces.answer_end.Tie as tie
 

@@ -3,7 +3,7 @@ use mathlib.Core.Path.{sym}
 use native.Mathlib.Omega.{arith}
 use lib.Seq.{length-take-le}
 use borrow.Author.Needs.{needs}
-use Rattle.skrzypolot.proofs.InMemory.{within}
+use Rattle.skrzypolot.proofs.Bounds.{within}
 use Rattle.skrzypolot.proofs.pieces.answer_last.Statement.{statement}
 use Rattle.skrzypolot.proofs.pieces.answer_last.Tie as tie
 
