@@ -18,7 +18,6 @@ pub mod LineLoop
 pub mod RoomyLines
 pub mod OutTwice
 pub mod FedFacts
-pub mod ByteNumbers
 pub mod RoomTakes
 pub mod PutLines
 pub mod Starting

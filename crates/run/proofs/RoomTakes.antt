@@ -12,7 +12,12 @@ use Rattle.text.specs.Lines.{lineFeed, until}
 use Rattle.text.proofs.Parted.{whole}
 use Rattle.plan.specs.declared.Plan.{Plan}
 use Rattle.plan.specs.Facts.{Accepted}
-use Rattle.line.specs.Run.{mostLines, lineGives}
+use Rattle.state.specs.declared.State.{State}
+use Rattle.step.proofs.Numbers.{Numbers, of-answered, of-stepped}
+use Rattle.line.specs.declared.Event.{Event}
+use Rattle.line.specs.declared.Event.the-variants.{Known, Malformed}
+use Rattle.line.specs.Event.{eventOf}
+use Rattle.line.specs.Run.{mostLines, eventGives, lineGives}
 use Rattle.line.proofs.Short.{printed-length}
 use Rattle.run.specs.declared.stream.Fed.{Fed}
 use Rattle.run.specs.Stream.{At, keeping, isGoing, linePrinted, fedPrinted}
@@ -23,7 +28,16 @@ use Rattle.run.proofs.FirstLines.{first-ended, first-whole}
 use Rattle.run.proofs.TakenLines.{out-quiet}
 use Rattle.run.proofs.FedFacts.{FedFacts, piece-facts}
 use Rattle.run.proofs.RoomyLines.{fits}
-use Rattle.run.proofs.ByteNumbers.{of-line}
+
+-- the numbers of what a line gives
+of-event : (p : Plan) (s : State) (e : Event) → Numbers p (eventGives p s e)
+unfolding eventGives
+of-event p s (Known kind k r) = of-stepped p s kind k r
+of-event p s Malformed = of-answered p s 11 (omega arith)
+
+of-line : (p : Plan) (s : State) (line : List ℕ) → Numbers p (lineGives p s line)
+unfolding lineGives
+of-line p s line = of-event p s (eventOf line)
 
 module _ (p : Plan) (A : Accepted p) where
   -- what a line prints
@@ -33,8 +47,8 @@ module _ (p : Plan) (A : Accepted p) where
     where
       go : (b : Bool) → isGoing x ≡ b → length (linePrinted p x) ≤ 128
       go true g =
-          let w = of-line p A (x .state) (x .kept) in
-          rw (printed-going p x g) (omega (arith, printed-length (x .number) (lineGives p (x .state) (x .kept)) (omega (arith, leb-true (x .number) mostLines g)) (w .answer) (w .subsystem) (w .task)))
+          let w = of-line p (x .state) (x .kept) in
+          rw (printed-going p x g) (omega (arith, printed-length (x .number) (lineGives p (x .state) (x .kept)) (omega (arith, leb-true (x .number) mostLines g)) (omega (arith, w .answer)) (w .subsystem A) (w .task A)))
       go false g = rw (printed-over p x g) (omega arith)
 
   -- what the first line of a piece prints

@@ -30,3 +30,4 @@ pub mod Rest
 pub mod Answering
 pub mod Narrowing
 pub mod Stepping
+pub mod Numbers
