@@ -50,6 +50,7 @@ fn main() {
     ] {
         bench_pace(name, text);
         bench_run(name, text);
+        bench_margins(name, text);
     }
 }
 
@@ -131,6 +132,28 @@ fn bench_run(name: &str, text: &str) {
     println!(
         "| run program, {name}, events a second | {proved:.0} | {other:.0} | {:.2} |",
         other / proved
+    );
+}
+
+/// Microseconds of the admission program from its start to its end, beside the second program on the same file.
+fn bench_margins(name: &str, text: &str) {
+    let plan = temporary("margins.plan", text.as_bytes());
+    let time = |command: &mut Command| {
+        let began = Instant::now();
+        let output = command.output().unwrap();
+        (began.elapsed().as_secs_f64() * 1e6, output.stdout)
+    };
+    let (mut proved, mut other) = (f64::MAX, f64::MAX);
+    for _ in 0..10 * ROUNDS {
+        let (took, printed) = time(Command::new(program("margins")).arg(&plan));
+        proved = proved.min(took);
+        let (took, also_printed) = time(Command::new(second_program()).arg("margins").arg(&plan));
+        other = other.min(took);
+        assert_eq!(printed, also_printed);
+    }
+    println!(
+        "| admission program, {name}, microseconds a run | {proved:.0} | {other:.0} | {:.2} |",
+        proved / other
     );
 }
 
