@@ -1,5 +1,7 @@
 // Who is chosen, over lent columns of a plan and a state. Every function takes any columns: a row or a resource that is not there reads as the
 // definitions read it.
+#![tactic(auto)]
+
 ghost use Rattle.std.specs.Prelude.{◌≡◌};
 ghost use Rattle.plan.specs.declared.Plan.{Plan};
 ghost use Rattle.state.specs.declared.State.{State};
@@ -16,7 +18,7 @@ use subsystem::{subsystem_of, system_section};
 use task::{ready_below, task_of};
 
 // The subsystem chosen and the task taken in it, waiting or not; 255 for none.
-#[derive(Drop)]
+#[derive(Clone, Copy)]
 pub struct Choice {
     pub subsystem: u8,
     pub task: u8,

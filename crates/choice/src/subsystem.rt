@@ -8,7 +8,7 @@ use crate::places::{at, in_section, last_held};
 use state::BudgetLeft;
 
 // The system ceiling and the task that holds its resource; the number of subsystems and 255 if no global is held.
-#[derive(Drop)]
+#[derive(Clone, Copy)]
 pub struct Section {
     pub ceiling: u8,
     pub holder: u8,

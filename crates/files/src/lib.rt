@@ -1,10 +1,12 @@
 // What the programs do with files. What fails is named on standard error, beside the reason.
+#![tactic(auto)]
+
 ghost use Rattle.io.specs.Counts.{IsPrefixLen};
 
 use libc::STDOUT_FILENO;
 
 // How many bytes stand at the start of the buffer, and whether a read failed.
-#[derive(Drop)]
+#[derive(Clone, Copy)]
 pub struct Got {
     pub count: usize,
     pub is_failed: bool,

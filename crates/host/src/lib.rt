@@ -1,4 +1,6 @@
 // The calls from C ("Calls from C"). Each says in one equation what it returns and what it leaves behind of everything it is lent.
+#![tactic(auto)]
+
 ghost use Rattle.std.specs.Prelude.{◌≡◌};
 ghost use Rattle.host.specs.Read.{read_left, read_call};
 ghost use Rattle.host.specs.Margin.{margin_left, margin_call};

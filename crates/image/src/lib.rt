@@ -1,4 +1,6 @@
 // The plan block and the state image, both ways.
+#![tactic(auto)]
+
 ghost use Rattle.std.specs.Prelude.{◌≡◌, eqb, length};
 ghost use Rattle.image.specs.Block.{block_bytes, plan_of};
 ghost use Rattle.image.specs.BlockCalls.{block_refused, block_read, block_written};
@@ -14,14 +16,14 @@ use state::State;
 use words::{read_bytes, read_words, write_bytes, write_subsystems, write_words};
 
 // number: 34, a buffer of the wrong length; 31, the block of no accepted plan; 0, the plan. With any other number than 0 the plan is all 0.
-#[derive(Drop)]
+#[derive(Clone, Copy)]
 pub struct Block {
     pub number: u8,
     pub plan: Plan,
 }
 
 // What a block and an image lent together give. number: 34, 31, 32, or 0 with plan, ceilings and state; with any other number they are all 0.
-#[derive(Drop)]
+#[derive(Clone, Copy)]
 pub struct Opened {
     pub number: u8,
     pub plan: Plan,

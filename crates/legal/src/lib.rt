@@ -1,4 +1,6 @@
 // A legal state: every condition of "State", those of subsystems and of tasks by themselves first. So what is held is there when its ceiling is read.
+#![tactic(auto)]
+
 ghost use Rattle.std.specs.Prelude.{true, ◌≡◌};
 ghost use Rattle.below.specs.Listed.{listed};
 ghost use Rattle.plan.specs.Accepted.{accepted};

@@ -1,3 +1,5 @@
+#![tactic(auto)]
+
 mod before;
 mod events;
 mod printed;
@@ -7,14 +9,14 @@ pub use events::event_of;
 pub use printed::{print, print_refusal, report_line};
 
 // An event line that was read.
-#[derive(Drop)]
+#[derive(Clone, Copy)]
 pub enum Event {
     Known { kind: u32, task: u32, resource: u32 },
     Malformed,
 }
 
 // What writing into the rest of a buffer answers: the new fill, or that the line is longer than the rest.
-#[derive(Drop)]
+#[derive(Clone, Copy)]
 pub enum Filled {
     Fill(usize),
     NoRoom,

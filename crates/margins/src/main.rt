@@ -1,5 +1,7 @@
 // margins PLAN: prints the admission report of a plan file, a line a row, or the refusal of a plan that has no margins.
 // What cannot be opened or read is named on standard error, and then nothing is printed.
+#![tactic(auto)]
+
 ghost use Rattle.std.specs.Prelude.{◌≡◌, ◌≤◌, length, take};
 ghost use Rattle.io.specs.Counts.{IsPrefixLen};
 ghost use Rattle.line.specs.Report.{report};

@@ -1,5 +1,7 @@
 // pace PLAN: steps 1,000,000 events on a plan's fresh state, made up by a small generator, without the tests of plan and state that a call from C
 // makes, and prints a sum over the answers. It is there to be timed: the benchmark makes the same events for the second program.
+#![tactic(auto)]
+
 ghost use Rattle.io.specs.Counts.{IsPrefixLen};
 
 use files::read_file;

@@ -1,4 +1,6 @@
 // The plan record and what is asked of it. Every function takes any record of the type: a count may pass its table, a period may be 0.
+#![tactic(auto)]
+
 ghost use Rattle.std.specs.Prelude.{◌≡◌};
 ghost use Rattle.below.specs.Listed.{listed};
 ghost use Rattle.plan.specs.Ceiling.{ceiling};
@@ -19,7 +21,7 @@ use tables::word_at;
 use uses::{lengths_fit, one_subsystem_each};
 
 // A plan that was read. Rows past the counts are all 0. The length of task t at resource r stands at t * 16 + r; 65535 is undeclared.
-#[derive(Drop)]
+#[derive(Clone, Copy)]
 pub struct Plan {
     pub subsystems: u8,
     pub tasks: u8,

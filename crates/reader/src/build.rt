@@ -11,7 +11,7 @@ use crate::Line;
 use plan::Plan;
 
 // A plan without its lengths.
-#[derive(Drop)]
+#[derive(Clone, Copy)]
 pub struct Tables {
     pub subsystems: u8,
     pub tasks: u8,

@@ -12,7 +12,7 @@ use text::Number;
 const TAB: u8 = 9;
 
 // What two fields say.
-#[derive(Drop)]
+#[derive(Clone, Copy)]
 enum Pair {
     Written(u32, u32),
     Nothing,

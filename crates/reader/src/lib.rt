@@ -1,3 +1,5 @@
+#![tactic(auto)]
+
 ghost use Rattle.std.specs.Prelude.{◌≡◌};
 ghost use Rattle.reader.specs.Reading.{judged_whole, reading};
 ghost use Rattle.reader.specs.Margin.{asked};
@@ -13,7 +15,7 @@ use numbers::{has_margins, is_accepted};
 use plan::Plan;
 
 // What reading a plan text answers. A number is the line, from 1, or the row.
-#[derive(Drop)]
+#[derive(Clone, Copy)]
 pub enum Verdict {
     Accepted,
     TooLong,
@@ -30,14 +32,14 @@ pub enum Verdict {
 }
 
 // The plan is all 0 where the verdict is neither Accepted nor NegativeMargin.
-#[derive(Drop)]
+#[derive(Clone, Copy)]
 pub struct Reading {
     pub verdict: Verdict,
     pub plan: Plan,
 }
 
 // One line of a plan text, with the numbers as written.
-#[derive(Drop)]
+#[derive(Clone, Copy)]
 pub enum Line {
     Subsystem {
         period: u32,
@@ -58,7 +60,7 @@ pub enum Line {
 }
 
 // What asking a plan text for the margin of a row answers.
-#[derive(Drop)]
+#[derive(Clone, Copy)]
 pub enum Asked {
     Margin(i64),
     NoRow,

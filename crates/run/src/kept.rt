@@ -4,7 +4,7 @@ ghost use Rattle.run.specs.Stream.{most_kept};
 ghost use Rattle.run.specs.Fed.{kept_of};
 
 // The first bytes of the line. A length past 20 means 20.
-#[derive(Drop)]
+#[derive(Clone, Copy)]
 pub struct Kept {
     pub bytes: [u8; 20],
     pub length: u8,

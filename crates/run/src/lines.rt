@@ -15,7 +15,7 @@ use step::Rows;
 use step::event::{stepped, stepped_in};
 
 // What a line asks the step.
-#[derive(Drop)]
+#[derive(Clone, Copy)]
 struct Ask {
     kind: u32,
     task: u32,
@@ -46,7 +46,7 @@ fn ask_of(line: &[u8]) -> Ask
 }
 
 // Where a line that had room leaves a run, beside the columns of the tasks: its clocks, and the fill behind its printed line.
-#[derive(Drop)]
+#[derive(Clone, Copy)]
 pub struct Placed {
     pub clocks: Clocks,
     pub fill: usize,

@@ -20,7 +20,7 @@ use step::Rows;
 use text::find;
 
 // Where a run stands: its state, the number of its next line, and what came of that line.
-#[derive(Drop)]
+#[derive(Clone, Copy)]
 pub struct Stream {
     pub state: State,
     pub number: u32,
@@ -28,7 +28,7 @@ pub struct Stream {
 }
 
 // What a piece gives: where the run stands then, how many bytes of the piece were taken, and the fill of the buffer.
-#[derive(Drop)]
+#[derive(Clone, Copy)]
 pub struct Fed {
     pub stream: Stream,
     pub taken: usize,

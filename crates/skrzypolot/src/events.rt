@@ -13,7 +13,7 @@ use run::stream::{Stream, begin};
 use step::{Rows, rows_with};
 
 // Where a run stands before a piece of count bytes, and whether a read or a write failed. A piece without bytes is the end.
-#[derive(Drop)]
+#[derive(Clone, Copy)]
 struct Going {
     stream: Stream,
     fill: usize,

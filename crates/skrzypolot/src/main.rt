@@ -1,5 +1,7 @@
 // skrzypolot PLAN EVENTS: prints a line an event, or the refusal of the plan ("The run program"). Without arguments it runs plan P of document 01.
 // What cannot be opened or read is named on standard error, and then nothing is printed. The event file is read in pieces, and never held whole.
+#![tactic(auto)]
+
 mod events;
 mod pieces;
 

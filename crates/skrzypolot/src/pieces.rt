@@ -11,7 +11,7 @@ use run::stream::{Stream, feed, finish};
 use step::Rows;
 
 // Where a run stands behind a piece, with the fill of the buffer, and whether a write failed.
-#[derive(Drop)]
+#[derive(Clone, Copy)]
 pub struct Answered {
     pub stream: Stream,
     pub fill: usize,

@@ -1,4 +1,6 @@
 // The state of a run: its types, a fresh one, one with a thing changed, and what is read of one.
+#![tactic(auto)]
+
 mod altered;
 pub mod beginning;
 mod columns;
@@ -11,15 +13,15 @@ pub use columns::{held_at, state_with, task_at};
 pub use section::{in_section, last_held, left_at, remaining, section_left};
 
 // Budget left and section length left are two counts, of two types: one never stands for the other.
-#[derive(Drop)]
+#[derive(Clone, Copy)]
 pub struct BudgetLeft(pub u16);
 
-#[derive(Drop)]
+#[derive(Clone, Copy)]
 pub struct SectionLeft(pub u16);
 
 // One task. condition: 0 idle, 1 ready, 2 started, 3 waiting. waits: the resource waited for, or 255. The first count entries of held
 // are the resources held, in the order taken; the others are 255.
-#[derive(Drop)]
+#[derive(Clone, Copy)]
 pub struct Task {
     pub condition: u8,
     pub waits: u8,
@@ -28,7 +30,7 @@ pub struct Task {
 }
 
 // What a state has per subsystem, taken together where the columns of its tasks are lent.
-#[derive(Drop)]
+#[derive(Clone, Copy)]
 pub struct Clocks {
     pub left: [BudgetLeft; 8],
     pub refill: [u16; 8],
@@ -37,7 +39,7 @@ pub struct Clocks {
 
 // A state in columns. Per subsystem: budget left, ticks to the next refill, ticks used of its global section. Per task: what Task has, with
 // its four held resources at 4 * task. Absent subsystems are all 0, absent tasks look idle.
-#[derive(Drop)]
+#[derive(Clone, Copy)]
 pub struct State {
     pub left: [BudgetLeft; 8],
     pub refill: [u16; 8],

@@ -20,7 +20,7 @@ use state::{
 };
 
 // What an event of kind 0 to 3 answers, and what it makes of its task and of the clocks.
-#[derive(Drop)]
+#[derive(Clone, Copy)]
 struct Effect {
     answer: u8,
     task: Task,

@@ -1,4 +1,6 @@
 // The step: what an event gives on a plan and a state ("Events").
+#![tactic(auto)]
+
 ghost use Rattle.std.specs.Prelude.{◌≡◌};
 ghost use Rattle.below.specs.Listed.{listed};
 ghost use Rattle.plan.specs.Ceiling.{ceiling};
@@ -15,7 +17,7 @@ use plan::Plan;
 use state::{Clocks, State};
 
 // What an event gives. answer is the number of the answer; subsystem and task are rows, 255 for none; ended has bit i set where task i was ended.
-#[derive(Drop)]
+#[derive(Clone, Copy)]
 pub struct Outcome {
     pub answer: u8,
     pub subsystem: u8,
@@ -25,7 +27,7 @@ pub struct Outcome {
 }
 
 // What an event answers, beside the state that it alters: an outcome without its state.
-#[derive(Drop)]
+#[derive(Clone, Copy)]
 pub struct Answer {
     pub answer: u8,
     pub subsystem: u8,
@@ -34,7 +36,7 @@ pub struct Answer {
 }
 
 // The same where the columns of the tasks are lent and altered: beside them, the clocks that the event leaves.
-#[derive(Drop)]
+#[derive(Clone, Copy)]
 pub struct Reply {
     pub answer: u8,
     pub subsystem: u8,
@@ -44,7 +46,7 @@ pub struct Reply {
 }
 
 // What a step reads of a plan beside the lengths: its rows, and the ceilings of its resources, worked out once.
-#[derive(Drop)]
+#[derive(Clone, Copy)]
 pub struct Rows {
     pub subsystems: u8,
     pub tasks: u8,

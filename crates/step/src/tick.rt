@@ -20,7 +20,7 @@ use state::{
 };
 
 // What (a) leaves beside the tasks: the clocks, the tasks ended, and the choice that is made then.
-#[derive(Drop)]
+#[derive(Clone, Copy)]
 struct Settled {
     clocks: Clocks,
     ended: u32,

@@ -1,10 +1,12 @@
+#![tactic(auto)]
+
 ghost use Rattle.std.specs.Prelude.{◌≡◌, ◌+◌, ◌≤◌, length, drop};
 ghost use Rattle.text.specs.Lines.{until};
 ghost use Rattle.text.specs.Numbers.{number};
 ghost use Rattle.text.specs.Digits.{behind};
 
 // What a field says.
-#[derive(Drop)]
+#[derive(Clone, Copy)]
 pub enum Number {
     Written(u32),
     Nothing,
