@@ -1,0 +1,33 @@
+use mathlib.Core.Path.{◌≡◌, ◌∙◌}
+use mathlib.Core.Logic.{⊎_elim}
+use Prim.Native.Nat.{◌≤◌, ◌-◌}
+use native.Mathlib.Omega.{arith}
+use borrow.Author.Rules.{rules}
+use Rattle.choice.specs.Columns.{section_ceiling, Found}
+use Rattle.choice.proofs.Found.{found_none, found_taken, found_kept}
+use Rattle.choice.proofs.subsystem.system_section.Goals as goal
+
+pub loop-k-init : goal.loop-k-init
+loop-k-init c = (omega arith, found_none _ _)
+
+pub overflow_add-k : goal.overflow_add-k
+overflow_add-k c = omega arith
+
+pub loop-k-smaller : goal.loop-k-smaller
+loop-k-smaller c = omega arith
+
+pub loop-k-preserved : goal.loop-k-preserved
+loop-k-preserved c =
+    let i = c.loop-k.invariant.1 in
+    let e = c.section_ceiling-l.ensures in (
+      omega arith,
+      ⊎_elim
+          (λ w. rw (w.1 ∙ e, w.2) (found_taken _ _ _ _ _ i (omega arith)))
+          (λ w. rw (w.1, w.2) (found_kept _ _ _ _ _ i (omega arith)))
+          c.if-l-ceiling.branch,
+    )
+
+pub returns : goal.returns
+returns c =
+    let e : c.loop-k.k ≡ c.args.tasks = omega arith in
+    rw e at c.loop-k.invariant.1

@@ -1,0 +1,20 @@
+-- `choice::task::lowest_held` meets its contract. The loop's invariant: a row is below lowest exactly if it is below low and below each ceiling passed.
+use mathlib.Core.Path.{◌≡◌, sym, ◌∙◌}
+use mathlib.Core.Logic.{⊎_elim}
+use mathlib.Core.Bool.{◌&&◌, and-true}
+use Prim.Native.Nat.{ℕ, ◌≤◌, ◌-◌}
+use native.Mathlib.Omega.{arith}
+use lib.Dec.{ltb}
+use lib.ListN.{get_or}
+use borrow.Author.Rules.{rules}
+use Rattle.below.specs.Below.{all}
+use Rattle.below.proofs.Search.{all_none}
+use Rattle.below.proofs.Least.{below_taken, below_kept, all_after}
+use Rattle.choice.specs.Columns.{local_at, below_held}
+use Rattle.choice.proofs.task.lowest_held.Given as goal
+
+abbrev pub invariant-loop-i : goal.invariant-loop-i
+invariant-loop-i l = (l.i ≤ l.n) × ((t : ℕ) → ltb t l.lowest ≡ (ltb t l.low && all l.i (λ j. ltb t (local_at l.kinds l.ceilings l.held l.k j))))
+
+abbrev pub decreases-loop-i : goal.decreases-loop-i
+decreases-loop-i l = l.n - l.i

@@ -1,0 +1,54 @@
+use mathlib.Core.Path.{◌≡◌, sym, ◌∙◌}
+use mathlib.Core.Logic.{⊎_elim}
+use mathlib.Core.Bool.{false, ◌&&◌, and-true}
+use Prim.Native.Nat.{ℕ, ◌≤◌, ◌<◌, ◌-◌}
+use native.Mathlib.Omega.{arith}
+use lib.Dec.{ltb}
+use borrow.Author.Count.{below_none, below_more}
+use borrow.Author.Rules.{rules}
+use Rattle.below.specs.Below.{all}
+use Rattle.below.proofs.Search.{all_none}
+use Rattle.below.proofs.Least.{all_after}
+use Rattle.plan.specs.Limits.{no_row}
+use Rattle.choice.specs.Columns.{below_held_in, keeps_in}
+use Rattle.choice.proofs.Columns.{keeps_other, keeps_own}
+use Rattle.choice.proofs.Ready.{ready_none, ready_ended, bar_other, bar_own}
+use Rattle.choice.proofs.task.ready_below.Goals as goal
+
+pub loop-k-init : goal.loop-k-init
+loop-k-init c = (omega arith, below_none _, λ t. rw all_none (sym (and-true _)))
+
+pub returns-then-keeps : goal.returns-then-keeps
+returns-then-keeps c =
+    ready_none _ _ _ _ _ (omega arith) c.loop-k-test.true
+    (keeps_own _ _ _ _ _ _ _ (omega arith) ∙ sym c.keeps.ensures ∙ c.if-keeps.true)
+
+pub overflow_add-k : goal.overflow_add-k
+overflow_add-k c = omega arith
+
+pub loop-k-smaller : goal.loop-k-smaller
+loop-k-smaller c = omega arith
+
+pub loop-k-preserved : goal.loop-k-preserved
+loop-k-preserved c =
+    let a = c.args in
+    let l = c.loop-k in (
+      omega arith,
+      below_more _ _ l.invariant.1
+          (⊎_elim
+          (λ w. keeps_own _ _ _ _ _ _ _ (omega arith) ∙ sym w.1.ensures ∙ w.2.left)
+          (λ w. keeps_other _ _ _ _ _ _ _ (omega arith))
+          c.if-at-c.branch),
+      λ t.
+          all_after l.k (below_held_in a.owners.now a.kinds.now a.ceilings.now a.counts.now a.held.now a.c t) (ltb t no_row) _ _
+          (l.invariant.2 t)
+          (⊎_elim
+          (λ w. bar_own _ _ _ _ _ _ _ _ _ (omega arith) _ w.4 w.3.ensures t)
+          (λ w. bar_other _ _ _ _ _ _ _ _ _ (omega arith) w.1 t)
+          c.if-at-c.branch),
+    )
+
+pub returns : goal.returns
+returns c =
+    let l = c.loop-k in
+    ready_ended _ _ _ _ _ l.invariant.0 c.loop-k-test.false l.invariant.1 l.invariant.2

@@ -1,0 +1,14 @@
+-- Both kinds of rows.
+use mathlib.Core.Path.{sym, ◌∙◌}
+use borrow.Author.Tests.{not-true, not-false}
+use Rattle.image.specs.Pads.{pads_zero}
+use borrow.Author.Rules.{rules}
+use Rattle.image.proofs.opens.pads_clear.Goals as goal
+
+pub returns-then-not-subsystem_pads : goal.returns-then-not-subsystem_pads
+unfolding pads_zero
+returns-then-not-subsystem_pads c = rw (sym c.subsystem_pads.ensures ∙ not-true _ c.if-not-subsystem_pads.true)
+
+pub returns : goal.returns
+unfolding pads_zero
+returns c = rw (sym c.subsystem_pads.ensures ∙ not-false _ c.if-not-subsystem_pads.false-raw) c.task_pads.ensures

@@ -1,0 +1,15 @@
+-- The loop's invariant: the entries passed are the bytes at their places.
+use native.Mathlib.Omega.{arith}
+use mathlib.Core.Path.{refl}
+use Prim.Native.Nat.{◌+◌, ◌/◌, ◌%◌, ◌-◌}
+use lib.ListN.{length}
+use Rattle.below.proofs.Listed.{Filled, filled_begun, filled_turn, filled_whole}
+use Rattle.image.specs.Words.{byte_at}
+use Rattle.image.specs.Image.{task_byte_at}
+use Rattle.image.proofs.opens.read_held.Given as goal
+
+abbrev pub invariant-loop-i : goal.invariant-loop-i
+invariant-loop-i l = Filled (length l.initial.out) (λ j. byte_at l.b (task_byte_at (j / 4) (3 + j % 4))) 0 l.out l.i
+
+abbrev pub decreases-loop-i : goal.decreases-loop-i
+decreases-loop-i l = length l.initial.out - l.i

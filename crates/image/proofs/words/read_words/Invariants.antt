@@ -1,0 +1,15 @@
+-- The loop's invariant: the entries passed are the numbers at their places. A place of number i ends within the steps of all.
+use native.Mathlib.Omega.{arith}
+use mathlib.Core.Path.{refl}
+use Prim.Native.Nat.{◌+◌, ◌*◌, ◌-◌}
+use lib.ListN.{length}
+use Rattle.below.proofs.Listed.{Filled, filled_begun, filled_turn, filled_whole}
+use Rattle.image.specs.Words.{word_at}
+use Rattle.image.proofs.WordLaws.{stepped}
+use Rattle.image.proofs.words.read_words.Given as goal
+
+abbrev pub invariant-loop-i : goal.invariant-loop-i
+invariant-loop-i l = Filled (length l.initial.out) (λ k. word_at l.b (l.at + l.step * k)) 0 l.out l.i
+
+abbrev pub decreases-loop-i : goal.decreases-loop-i
+decreases-loop-i l = length l.initial.out - l.i

@@ -1,0 +1,15 @@
+-- The loop's invariant: the buffer at entry, with as many bytes of the list pasted in as were passed.
+use native.Mathlib.Omega.{arith}
+use borrow.Author.Rules.{rules}
+use mathlib.Core.Path.{◌≡◌, refl}
+use Prim.Native.Nat.{◌-◌, ◌≤◌}
+use lib.ListN.{length, length-set}
+use lib.Seq.{paste, paste-zero}
+use Rattle.image.proofs.WordLaws.{bytes_turn}
+use Rattle.image.proofs.words.write_bytes.Given as goal
+
+abbrev pub invariant-loop-i : goal.invariant-loop-i
+invariant-loop-i l = (l.i ≤ length l.a) × (length l.block ≡ length l.initial.block) × (l.block ≡ paste l.initial.block l.at l.a l.i)
+
+abbrev pub decreases-loop-i : goal.decreases-loop-i
+decreases-loop-i l = length l.a - l.i

@@ -1,0 +1,16 @@
+-- The loop's invariant: the buffer at entry, with the words of the rows passed pasted in.
+use native.Mathlib.Omega.{arith}
+use borrow.Author.Rules.{rules}
+use mathlib.Core.Path.{◌≡◌, refl, ◌∙◌}
+use Prim.Native.Nat.{◌*◌, ◌-◌, ◌≤◌}
+use lib.ListN.{length}
+use lib.Seq.{paste, paste-zero}
+use Rattle.image.specs.Block.{subsystem_words}
+use Rattle.image.proofs.WordLaws.{subsystems_turn}
+use Rattle.image.proofs.words.write_subsystems.Given as goal
+
+abbrev pub invariant-loop-s : goal.invariant-loop-s
+invariant-loop-s l = (l.s ≤ length l.periods) × (length l.block ≡ length l.initial.block) × (l.block ≡ paste l.initial.block l.at (subsystem_words l.periods l.budgets) (4 * l.s))
+
+abbrev pub decreases-loop-s : goal.decreases-loop-s
+decreases-loop-s l = length l.periods - l.s

@@ -1,0 +1,16 @@
+-- The loop's invariant: the buffer at entry, with the words of the entries passed pasted in.
+use native.Mathlib.Omega.{arith}
+use borrow.Author.Rules.{rules}
+use mathlib.Core.Path.{◌≡◌, refl, ◌∙◌}
+use Prim.Native.Nat.{◌*◌, ◌-◌, ◌≤◌}
+use lib.ListN.{length}
+use lib.Seq.{paste, paste-zero}
+use Rattle.image.specs.Words.{words}
+use Rattle.image.proofs.WordLaws.{words_turn}
+use Rattle.image.proofs.words.write_words.Given as goal
+
+abbrev pub invariant-loop-i : goal.invariant-loop-i
+invariant-loop-i l = (l.i ≤ length l.a) × (length l.block ≡ length l.initial.block) × (l.block ≡ paste l.initial.block l.at (words l.a) (2 * l.i))
+
+abbrev pub decreases-loop-i : goal.decreases-loop-i
+decreases-loop-i l = length l.a - l.i

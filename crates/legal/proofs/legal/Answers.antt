@@ -1,0 +1,15 @@
+-- The three tests together are the definition, for an accepted plan with its own ceilings.
+use borrow.Author.Tests.{not-true, not-false}
+use Rattle.legal.proofs.CodeLegal.{legal_tested}
+use borrow.Author.Rules.{rules}
+use Rattle.legal.proofs.legal.Goals as goal
+
+pub returns-then-not-subsystems_pass : goal.returns-then-not-subsystems_pass
+returns-then-not-subsystems_pass c = λ a e. rw (← legal_tested _ _ _ a e, ← c.subsystems_pass.ensures, not-true c.subsystems_pass.result c.if-not-subsystems_pass.true)
+
+pub returns-then-not-tasks_pass : goal.returns-then-not-tasks_pass
+returns-then-not-tasks_pass c = λ a e. rw (← legal_tested _ _ _ a e, ← c.subsystems_pass.ensures, not-false c.subsystems_pass.result c.if-not-subsystems_pass.false-raw, ← c.tasks_pass.ensures, not-true c.tasks_pass.result c.if-not-tasks_pass.true)
+
+pub returns : goal.returns
+returns c =
+    λ a e. rw (← legal_tested _ _ _ a e, ← c.subsystems_pass.ensures, not-false c.subsystems_pass.result c.if-not-subsystems_pass.false-raw, ← c.tasks_pass.ensures, not-false c.tasks_pass.result c.if-not-tasks_pass.false-raw) c.order_passes.ensures

@@ -1,0 +1,15 @@
+-- Only an active task is asked for its row.
+use Rattle.plan.specs.Plan.{taken_before}
+use Rattle.legal.specs.Legal.{implies}
+use Rattle.legal.specs.Lent.{below_row}
+use borrow.Author.Tests.{not-true, not-false}
+use borrow.Author.Rules.{rules}
+use Rattle.legal.proofs.order.below_row.Goals as goal
+
+pub returns-then-not-active_before : goal.returns-then-not-active_before
+unfolding below_row implies
+returns-then-not-active_before c = rw (← c.active_before.ensures, not-true c.active_before.result c.if-not-active_before.true)
+
+pub returns : goal.returns
+unfolding below_row implies taken_before
+returns c = rw (← c.active_before.ensures, not-false c.active_before.result c.if-not-active_before.false-raw)

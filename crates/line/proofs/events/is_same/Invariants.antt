@@ -1,0 +1,15 @@
+-- `line::events::is_same` meets its contract. The loop's invariant: what is left is the same where the whole is. The measure is what is left.
+use mathlib.Core.Path.{◌≡◌, refl, sym, ◌∙◌}
+use Prim.Native.Nat.{◌-◌, ◌≤◌}
+use native.Mathlib.Numerals.{add-one}
+use native.Mathlib.Omega.{arith}
+use lib.ListN.{length, drop}
+use Rattle.text.specs.Bytes.{same}
+use Rattle.line.proofs.Same.{same_lengths, same_on, same_not, same_end}
+use Rattle.line.proofs.events.is_same.Given as goal
+
+abbrev pub invariant-loop-i : goal.invariant-loop-i
+invariant-loop-i l = (same (drop l.i l.a) (drop l.i l.b) ≡ same l.a l.b) × (l.i ≤ length l.a)
+
+abbrev pub decreases-loop-i : goal.decreases-loop-i
+decreases-loop-i l = length l.a - l.i

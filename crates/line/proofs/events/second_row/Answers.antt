@@ -1,0 +1,11 @@
+-- `line::events::second_row` meets its contract: the rest is a number or not.
+use mathlib.Core.Path.{sym, ◌∙◌}
+use borrow.Author.Rules.{rules}
+use Rattle.line.proofs.Behind.{last_not, last_is}
+use Rattle.line.proofs.events.second_row.Goals as goal
+
+pub returns-in_default : goal.returns-in_default
+returns-in_default c = sym (last_not _ _ (sym c.number_of_lem.ensures ∙ c.enum_told-1.given.1))
+
+pub returns : goal.returns
+returns c = sym (last_is _ _ _ (sym c.number_of_lem.ensures ∙ c.resource-1.given.1))

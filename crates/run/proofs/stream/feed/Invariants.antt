@@ -1,0 +1,22 @@
+-- `run::stream::feed` meets its contract. The loop's invariant: what is left of the piece, taken from here, gives what the whole piece gives; the state
+-- is legal, and the buffer keeps its length. The measure is what is left of the piece: a turn is the quick way as far as it goes, and one line more.
+use mathlib.Core.Path.{◌≡◌, refl, ◌∙◌}
+use Prim.Native.Nat.{◌+◌, ◌-◌, ◌≤◌}
+use native.Mathlib.Omega.{arith}
+use lib.ListN.{length, drop, length-drop}
+use Rattle.plan.specs.declared.Plan.{Plan}
+use Rattle.step.specs.Lent.{Lent}
+use Rattle.line.proofs.Parts.{to_end}
+use Rattle.run.specs.Fed.{line_taken, first_line, at_of, taken_of, from_place, piece_taken}
+use Rattle.run.proofs.LineLoop.{place_start, place_end, place_on, place_stop, turn_lent}
+use Rattle.run.proofs.stream.feed.Given as goal
+
+abbrev pub invariant-loop-at : goal.invariant-loop-at
+invariant-loop-at l =
+    (l.at ≤ length l.piece)
+    × (length l.out ≡ length l.initial.out)
+    × (l.fill ≤ length l.initial.out → l.filled ≤ length l.initial.out)
+    × ((p : Plan) → Lent p l.initial.stream.state l.rows l.lengths → Lent p l.stream.state l.rows l.lengths × (from_place p (at_of l.stream) l.piece l.at l.out l.filled ≡ piece_taken p (at_of l.initial.stream) l.piece l.initial.out l.fill))
+
+abbrev pub decreases-loop-at : goal.decreases-loop-at
+decreases-loop-at l = length l.piece - l.at

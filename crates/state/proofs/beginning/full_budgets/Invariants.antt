@@ -1,0 +1,16 @@
+-- The loop's invariant: every subsystem passed has its budget.
+use native.Mathlib.Omega.{arith}
+use borrow.Author.Rules.{rules}
+use mathlib.Core.Path.{ap}
+use mathlib.Core.List.{List}
+use Prim.Native.Nat.{ℕ, ◌-◌}
+use lib.ListN.{get_or}
+use Rattle.below.proofs.Listed.{Filled, filled_begun, filled_turn, filled_whole}
+use Rattle.state.specs.declared.BudgetLeft.{BudgetLeft}
+use Rattle.state.proofs.beginning.full_budgets.Given as goal
+
+abbrev pub invariant-loop-c : goal.invariant-loop-c
+invariant-loop-c l = Filled 8 (budget_at l.budgets) (record { 0 = 0 }) l.left l.c
+
+abbrev pub decreases-loop-c : goal.decreases-loop-c
+decreases-loop-c l = 8 - l.c

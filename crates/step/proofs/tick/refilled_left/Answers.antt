@@ -1,0 +1,44 @@
+use mathlib.Core.Logic.{⊎_elim}
+use Prim.Native.Nat.{◌-◌}
+use native.Mathlib.Omega.{arith}
+use borrow.Author.Rules.{rules}
+use Rattle.step.proofs.Refills.{Filled, filled_begun, filled_stored, filled_passed, filled_all}
+use Rattle.step.proofs.tick.refilled_left.Goals as goal
+
+pub loop-c-init : goal.loop-c-init
+loop-c-init c = filled_begun _ _ _ (search rules)
+
+pub overflow_cast-at : goal.overflow_cast-at
+overflow_cast-at c = omega arith
+
+pub offset_bounds-refill-at : goal.offset_bounds-refill-at
+offset_bounds-refill-at c = omega arith
+
+pub bounds-refill-at : goal.bounds-refill-at
+bounds-refill-at c = omega arith
+
+pub offset_bounds-budgets-at : goal.offset_bounds-budgets-at
+offset_bounds-budgets-at c = omega arith
+
+pub bounds-budgets-at : goal.bounds-budgets-at
+bounds-budgets-at c = omega arith
+
+pub offset_bounds-next-at : goal.offset_bounds-next-at
+offset_bounds-next-at c = omega arith
+
+pub bounds-next-at : goal.bounds-next-at
+bounds-next-at c = omega arith
+
+pub overflow_add-c : goal.overflow_add-c
+overflow_add-c c = omega arith
+
+pub loop-c-smaller : goal.loop-c-smaller
+loop-c-smaller c = omega arith
+
+pub loop-c-preserved : goal.loop-c-preserved
+loop-c-preserved c =
+    let l = c.loop-c in
+    ⊎_elim (λ w. filled_stored _ _ _ _ _ l.invariant c.loop-c-test.true _ (omega (arith, w.0.taken)) w.1) (λ w. filled_passed _ _ _ _ _ l.invariant c.loop-c-test.true _ (omega (arith, w.0.left)) w.1) c.if-refill-at-le1.branch
+
+pub returns : goal.returns
+returns c = filled_all _ _ _ _ _ c.loop-c.invariant c.loop-c-test.false
