@@ -13,10 +13,10 @@ returns-then-block-ne1108 c = wrong_length _ _ _ c.if-block-ne1108.true
 pub returns-then-not-is_accepted : goal.returns-then-not-is_accepted
 returns-then-not-is_accepted c =
     rw (c.number.ensures, c.beside.ensures)
-    (refused _ _ _ (omega arith) _ c.read-r.ensures (sym c.is_accepted.ensures ∙ not-true _ c.if-not-is_accepted.true))
+    (refused _ _ _ (omega arith) _ c.read-r.ensures (sym c.is_accepted.ensures ∙ c.if-not-is_accepted.true))
 
 pub returns : goal.returns
 returns c =
     let right : length c.args.block.now ≡ block_bytes = omega arith in
     rw (c.write_block.ensures.1, filled _ _ right)
-    (accepted _ _ _ (omega arith) _ c.read-r.ensures (sym c.is_accepted.ensures ∙ not-false _ c.if-not-is_accepted.false-raw))
+    (accepted _ _ _ (omega arith) _ c.read-r.ensures (sym c.is_accepted.ensures ∙ c.if-not-is_accepted.false))

@@ -33,7 +33,7 @@ returns-then-not-accepted c =
     let e = c.if-b-ne1108.false in
     let small : (k : ℕ) → get_or b k 0 < 256 = λ k. omega (arith, c.shared_slice_known-2-1.given k) in
     let no : accepted (plan_of b) ≡ false
-    = ap accepted (sym c.read_plan-plan.ensures) ∙ sym c.accepted.ensures ∙ not-true _ c.if-not-accepted.true in
+    = ap accepted (sym c.read_plan-plan.ensures) ∙ sym c.accepted.ensures ∙ c.if-not-accepted.true in
     c.refused-then-not-accepted.ensures ∙ read_refused b 31 (number_31 b e (is_block_lem b e small ∙ rw no)) refl
 
 pub returns : goal.returns
@@ -43,6 +43,6 @@ returns c =
     let e = c.if-b-ne1108.false in
     let small : (k : ℕ) → get_or b k 0 < 256 = λ k. omega (arith, c.shared_slice_known-2-1.given k) in
     let yes : accepted (plan_of b) ≡ true
-    = ap accepted (sym c.read_plan-plan.ensures) ∙ sym c.accepted.ensures ∙ not-false _ c.if-not-accepted.false-raw in
+    = ap accepted (sym c.read_plan-plan.ensures) ∙ sym c.accepted.ensures ∙ c.if-not-accepted.false in
     rw c.read_plan-plan.ensures
     (read_accepted b (number_0 b e (is_block_lem b e small ∙ rw (yes, eq-eqb _ _ c.if-b-ne0.false))))

@@ -9,9 +9,9 @@ use Rattle.legal.proofs.order_passes.Goals as goal
 
 pub returns-then-not-all_ordered : goal.returns-then-not-all_ordered
 unfolding order_pass ordered below_held below_row first_held apart_from apart active_before task_at in_section is_active is_started is_waiting owner is_global level taken_before
-returns-then-not-all_ordered c = rw (← c.all_ordered.ensures, not-true c.all_ordered.result c.if-not-all_ordered.true)
+returns-then-not-all_ordered c = rw (← c.all_ordered.ensures, c.if-not-all_ordered.true)
 
 pub returns : goal.returns
 unfolding order_pass ordered below_held below_row first_held apart_from apart active_before task_at in_section is_active is_started is_waiting owner is_global level taken_before
 returns c =
-    rw (← c.all_ordered.ensures, not-false c.all_ordered.result c.if-not-all_ordered.false-raw) c.All-apart.ensures
+    rw (← c.all_ordered.ensures, c.if-not-all_ordered.false) c.All-apart.ensures

@@ -9,9 +9,9 @@ use Rattle.legal.proofs.tasks_pass.Goals as goal
 
 pub returns-then-not-all_tasks_fit : goal.returns-then-not-all_tasks_fit
 unfolding tasks_pass task_fits alone_legal held_legal waiting_legal section_legal left_of used_of task_at in_section section_left owner is_global length_of declares
-returns-then-not-all_tasks_fit c = rw (← c.all_tasks_fit.ensures, not-true c.all_tasks_fit.result c.if-not-all_tasks_fit.true)
+returns-then-not-all_tasks_fit c = rw (← c.all_tasks_fit.ensures, c.if-not-all_tasks_fit.true)
 
 pub returns : goal.returns
 unfolding tasks_pass task_fits alone_legal held_legal waiting_legal section_legal left_of used_of task_at in_section section_left owner is_global length_of declares
 returns c =
-    rw (← c.all_tasks_fit.ensures, not-false c.all_tasks_fit.result c.if-not-all_tasks_fit.false-raw) c.sections_legal.ensures
+    rw (← c.all_tasks_fit.ensures, c.if-not-all_tasks_fit.false) c.sections_legal.ensures

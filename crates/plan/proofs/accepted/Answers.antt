@@ -9,14 +9,14 @@ use Rattle.plan.proofs.accepted.Goals as goal
 
 pub returns-then-not-rows_fit : goal.returns-then-not-rows_fit
 unfolding accepted rows_fit uses_fit task_uses_fit
-returns-then-not-rows_fit c = rw (sym c.rows_fit.ensures ∙ not-true _ c.if-not-rows_fit.true)
+returns-then-not-rows_fit c = rw (sym c.rows_fit.ensures ∙ c.if-not-rows_fit.true)
 
 pub returns-then-not-uses_fit : goal.returns-then-not-uses_fit
 unfolding accepted rows_fit uses_fit task_uses_fit
 returns-then-not-uses_fit c =
-    rw (sym c.rows_fit.ensures ∙ not-false _ c.if-not-rows_fit.false-raw, sym c.uses_fit.ensures ∙ not-true _ c.if-not-uses_fit.true)
+    rw (sym c.rows_fit.ensures ∙ c.if-not-rows_fit.false, sym c.uses_fit.ensures ∙ c.if-not-uses_fit.true)
 
 pub returns : goal.returns
 unfolding accepted rows_fit uses_fit task_uses_fit admitted
 returns c =
-    rw (sym c.rows_fit.ensures ∙ not-false _ c.if-not-rows_fit.false-raw, sym c.uses_fit.ensures ∙ not-false _ c.if-not-uses_fit.false-raw, ← c.first_negative.ensures)
+    rw (sym c.rows_fit.ensures ∙ c.if-not-rows_fit.false, sym c.uses_fit.ensures ∙ c.if-not-uses_fit.false, ← c.first_negative.ensures)

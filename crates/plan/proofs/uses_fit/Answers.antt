@@ -9,9 +9,9 @@ use Rattle.plan.proofs.uses_fit.Goals as goal
 
 pub returns-then-not-lengths_fit : goal.returns-then-not-lengths_fit
 unfolding uses_fit task_uses_fit use_fits length_fits one_subsystem is_global declares length_of budget owner
-returns-then-not-lengths_fit c = rw (sym c.lengths_fit.ensures ∙ not-true _ c.if-not-lengths_fit.true)
+returns-then-not-lengths_fit c = rw (sym c.lengths_fit.ensures ∙ c.if-not-lengths_fit.true)
 
 pub returns : goal.returns
 unfolding uses_fit task_uses_fit use_fits length_fits one_subsystem is_global declares length_of budget owner
 returns c =
-    rw (sym c.lengths_fit.ensures ∙ not-false _ c.if-not-lengths_fit.false-raw) c.one_subsystem_each.ensures
+    rw (sym c.lengths_fit.ensures ∙ c.if-not-lengths_fit.false) c.one_subsystem_each.ensures

@@ -12,17 +12,17 @@ use Rattle.reader.proofs.ask.Goals as goal
 
 pub returns-then-not-has_margins : goal.returns-then-not-has_margins
 unfolding asked has_margins
-returns-then-not-has_margins c = sym (asked_refused _ _ (sym c.has_margins.ensures ∙ not-true _ c.if-not-has_margins.true)) ∙ ap (λ (r : Reading). asked_of r c.args.row) c.read-r.ensures
+returns-then-not-has_margins c = sym (asked_refused _ _ (sym c.has_margins.ensures ∙ c.if-not-has_margins.true)) ∙ ap (λ (r : Reading). asked_of r c.args.row) c.read-r.ensures
 
 pub returns-then-row-p : goal.returns-then-row-p
 unfolding asked has_margins
 returns-then-row-p c =
     ap Margin (to_z-of_z {w = w64} {z = c.margin.result} (record { sfits = c.margin.type-inv }) ∙ c.margin.ensures)
-    ∙ sym (asked_margin _ _ (sym c.has_margins.ensures ∙ not-false _ c.if-not-has_margins.false-raw) c.if-row-p.true)
+    ∙ sym (asked_margin _ _ (sym c.has_margins.ensures ∙ c.if-not-has_margins.false) c.if-row-p.true)
     ∙ ap (λ (r : Reading). asked_of r c.args.row) c.read-r.ensures
 
 pub returns : goal.returns
 unfolding asked has_margins
 returns c =
-    sym (asked_no_row _ _ (sym c.has_margins.ensures ∙ not-false _ c.if-not-has_margins.false-raw) c.if-row-p.false)
+    sym (asked_no_row _ _ (sym c.has_margins.ensures ∙ c.if-not-has_margins.false) c.if-row-p.false)
     ∙ ap (λ (r : Reading). asked_of r c.args.row) c.read-r.ensures

@@ -21,16 +21,16 @@ sized c =
     }
 
 pub returns-then-not-accepted : goal.returns-then-not-accepted
-returns-then-not-accepted c = c.unread.ensures ∙ step_31 _ _ _ _ _ (sym c.accepted.ensures ∙ not-true _ c.if-not-accepted.true)
+returns-then-not-accepted c = c.unread.ensures ∙ step_31 _ _ _ _ _ (sym c.accepted.ensures ∙ c.if-not-accepted.true)
 
 pub returns-then-not-legal : goal.returns-then-not-legal
 returns-then-not-legal c =
-    let a = sym c.accepted.ensures ∙ not-false _ c.if-not-accepted.false-raw in
-    c.unread-then-not-legal.ensures ∙ step_32 _ _ _ _ _ a (sym (c.legal.ensures a c.ceilings-ceilings.ensures) ∙ not-true _ c.if-not-legal.true)
+    let a = sym c.accepted.ensures ∙ c.if-not-accepted.false in
+    c.unread-then-not-legal.ensures ∙ step_32 _ _ _ _ _ a (sym (c.legal.ensures a c.ceilings-ceilings.ensures) ∙ c.if-not-legal.true)
 
 pub returns : goal.returns
 returns c =
-    let a = sym c.accepted.ensures ∙ not-false _ c.if-not-accepted.false-raw in
+    let a = sym c.accepted.ensures ∙ c.if-not-accepted.false in
     let e = c.ceilings-ceilings.ensures in
-    let l = sym (c.legal.ensures a e) ∙ not-false _ c.if-not-legal.false-raw in
+    let l = sym (c.legal.ensures a e) ∙ c.if-not-legal.false in
     c.stepped.ensures _ (step_lent _ _ _ a l (c.rows_with.ensures e) (sized c)) ∙ step_on _ _ _ _ _ a l

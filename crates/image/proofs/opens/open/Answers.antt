@@ -60,14 +60,14 @@ returns-then-not-pads_clear c =
     let r = read c in
     c.nothing-then-not-pads_clear.ensures
     ∙ no_image _ _ (long r) (full r) (is c)
-    (not_padded (plan_of (block r)) (image r) (full r) (small r) (sym c.pads_clear.ensures ∙ not-true _ c.if-not-pads_clear.true))
+    (not_padded (plan_of (block r)) (image r) (full r) (small r) (sym c.pads_clear.ensures ∙ c.if-not-pads_clear.true))
 
 pub returns-then-not-legal : goal.returns-then-not-legal
 returns-then-not-legal c =
     let r = read (passed c) in
     c.nothing-then-not-legal.ensures
     ∙ no_image _ _ (long r) (full r) (is (passed c))
-    (not_legal (plan_of (block r)) (image r) (full r) (small r) (sym (legal_is c) ∙ not-true _ c.if-not-legal.true))
+    (not_legal (plan_of (block r)) (image r) (full r) (small r) (sym (legal_is c) ∙ c.if-not-legal.true))
 
 pub returns : goal.returns
 returns c =
@@ -75,5 +75,5 @@ returns c =
     let r = read e in
     both_opened (block r) (image r) (long r) (full r) _ _ _ (plan_is e) c.ceilings-ceilings.ensures c.read_state-state.ensures (is e)
     (image_passes (plan_of (block r)) (image r) (full r) (small r)
-    (sym c.pads_clear.ensures ∙ not-false _ c.if-not-pads_clear.false-raw)
-    (sym (legal_is c) ∙ not-false _ c.if-not-legal.false-raw))
+    (sym c.pads_clear.ensures ∙ c.if-not-pads_clear.false)
+    (sym (legal_is c) ∙ c.if-not-legal.false))

@@ -7,8 +7,8 @@ use Rattle.image.proofs.opens.pads_clear.Goals as goal
 
 pub returns-then-not-subsystem_pads : goal.returns-then-not-subsystem_pads
 unfolding pads_zero
-returns-then-not-subsystem_pads c = rw (sym c.subsystem_pads.ensures ∙ not-true _ c.if-not-subsystem_pads.true)
+returns-then-not-subsystem_pads c = rw (sym c.subsystem_pads.ensures ∙ c.if-not-subsystem_pads.true)
 
 pub returns : goal.returns
 unfolding pads_zero
-returns c = rw (sym c.subsystem_pads.ensures ∙ not-false _ c.if-not-subsystem_pads.false-raw) c.task_pads.ensures
+returns c = rw (sym c.subsystem_pads.ensures ∙ c.if-not-subsystem_pads.false) c.task_pads.ensures

@@ -16,7 +16,7 @@ pub loop-k-init : goal.loop-k-init
 loop-k-init c = (search rules, below_none _)
 
 pub returns-then-not-task_fits : goal.returns-then-not-task_fits
-returns-then-not-task_fits c = all_left _ _ _ c.loop-k-test.true (sym c.task_fits.ensures ∙ not-true _ c.if-not-task_fits.true)
+returns-then-not-task_fits c = all_left _ _ _ c.loop-k-test.true (sym c.task_fits.ensures ∙ c.if-not-task_fits.true)
 
 pub overflow_add-k : goal.overflow_add-k
 overflow_add-k c = omega arith
@@ -25,7 +25,7 @@ pub loop-k-smaller : goal.loop-k-smaller
 loop-k-smaller c = omega arith
 
 pub loop-k-preserved : goal.loop-k-preserved
-loop-k-preserved c = (omega arith, below_more _ _ c.loop-k.invariant.1 (sym c.task_fits.ensures ∙ not-false _ c.if-not-task_fits.false-raw))
+loop-k-preserved c = (omega arith, below_more _ _ c.loop-k.invariant.1 (sym c.task_fits.ensures ∙ c.if-not-task_fits.false))
 
 pub returns : goal.returns
 returns c = all_ended _ _ _ c.loop-k-test.false c.loop-k.invariant.1

@@ -17,7 +17,7 @@ loop-i-init c = (search rules, below_none _)
 
 pub returns-then-not-held_one : goal.returns-then-not-held_one
 unfolding held_legal held_one unlike_at
-returns-then-not-held_one c = all_left _ _ _ c.loop-i-test.true (sym c.held_one.ensures ∙ not-true _ c.if-not-held_one.true)
+returns-then-not-held_one c = all_left _ _ _ c.loop-i-test.true (sym c.held_one.ensures ∙ c.if-not-held_one.true)
 
 pub overflow_add-i : goal.overflow_add-i
 overflow_add-i c = omega arith
@@ -26,7 +26,7 @@ pub loop-i-smaller : goal.loop-i-smaller
 loop-i-smaller c = omega arith
 
 pub loop-i-preserved : goal.loop-i-preserved
-loop-i-preserved c = (omega arith, below_more _ _ c.loop-i.invariant.1 (sym c.held_one.ensures ∙ not-false _ c.if-not-held_one.false-raw))
+loop-i-preserved c = (omega arith, below_more _ _ c.loop-i.invariant.1 (sym c.held_one.ensures ∙ c.if-not-held_one.false))
 
 pub returns : goal.returns
 unfolding held_legal held_one unlike_at

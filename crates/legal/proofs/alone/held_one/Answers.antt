@@ -17,14 +17,14 @@ returns-then-length_at c = rw (← c.held_at-r.ensures, lt-ltb _ _ c.if-resource
 pub returns-then-not-unlike_before : goal.returns-then-not-unlike_before
 unfolding held_one declares length_of
 returns-then-not-unlike_before c =
-    rw (← c.unlike_before.ensures, not-true c.unlike_before.result c.if-not-unlike_before.true, ← c.held_at-r.ensures, lt-ltb _ _ c.if-resources-r.false, ← c.length_at.ensures, ne_eqb _ _ c.if-length_at.false)
+    rw (← c.unlike_before.ensures, c.if-not-unlike_before.true, ← c.held_at-r.ensures, lt-ltb _ _ c.if-resources-r.false, ← c.length_at.ensures, ne_eqb _ _ c.if-length_at.false)
 
 pub returns-then-byte_at-ne1 : goal.returns-then-byte_at-ne1
 unfolding held_one declares length_of is_global implies
 returns-then-byte_at-ne1 c =
-    rw (← c.unlike_before.ensures, not-false c.unlike_before.result c.if-not-unlike_before.false-raw, ← c.held_at-r.ensures, lt-ltb _ _ c.if-resources-r.false, ← c.length_at.ensures, ne_eqb _ _ c.if-length_at.false, ← c.byte_at.ensures, ne_eqb _ _ c.if-byte_at-ne1.true)
+    rw (← c.unlike_before.ensures, c.if-not-unlike_before.false, ← c.held_at-r.ensures, lt-ltb _ _ c.if-resources-r.false, ← c.length_at.ensures, ne_eqb _ _ c.if-length_at.false, ← c.byte_at.ensures, ne_eqb _ _ c.if-byte_at-ne1.true)
 
 pub returns : goal.returns
 unfolding held_one declares length_of is_global implies
 returns c =
-    rw (← c.unlike_before.ensures, not-false c.unlike_before.result c.if-not-unlike_before.false-raw, ← c.held_at-r.ensures, lt-ltb _ _ c.if-resources-r.false, ← c.length_at.ensures, ne_eqb _ _ c.if-length_at.false, ← c.byte_at.ensures, eq-eqb _ _ c.if-byte_at-ne1.false)
+    rw (← c.unlike_before.ensures, c.if-not-unlike_before.false, ← c.held_at-r.ensures, lt-ltb _ _ c.if-resources-r.false, ← c.length_at.ensures, ne_eqb _ _ c.if-length_at.false, ← c.byte_at.ensures, eq-eqb _ _ c.if-byte_at-ne1.false)

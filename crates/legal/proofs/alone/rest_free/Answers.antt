@@ -13,7 +13,7 @@ pub loop-i-init : goal.loop-i-init
 loop-i-init c = (search rules, below_none _)
 
 pub returns-then-not-free_from : goal.returns-then-not-free_from
-returns-then-not-free_from c = all_left _ _ _ c.loop-i-test.true (sym c.free_from.ensures ∙ not-true _ c.if-not-free_from.true)
+returns-then-not-free_from c = all_left _ _ _ c.loop-i-test.true (sym c.free_from.ensures ∙ c.if-not-free_from.true)
 
 pub overflow_add-i : goal.overflow_add-i
 overflow_add-i c = omega arith
@@ -22,7 +22,7 @@ pub loop-i-smaller : goal.loop-i-smaller
 loop-i-smaller c = omega arith
 
 pub loop-i-preserved : goal.loop-i-preserved
-loop-i-preserved c = (omega arith, below_more _ _ c.loop-i.invariant.1 (sym c.free_from.ensures ∙ not-false _ c.if-not-free_from.false-raw))
+loop-i-preserved c = (omega arith, below_more _ _ c.loop-i.invariant.1 (sym c.free_from.ensures ∙ c.if-not-free_from.false))
 
 pub returns : goal.returns
 returns c = all_ended _ _ _ c.loop-i-test.false c.loop-i.invariant.1

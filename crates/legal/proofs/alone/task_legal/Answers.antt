@@ -6,18 +6,18 @@ use Rattle.legal.proofs.alone.task_legal.Goals as goal
 
 pub returns-then-not-well_written : goal.returns-then-not-well_written
 unfolding alone_legal
-returns-then-not-well_written c = rw (← c.well_written.ensures, not-true c.well_written.result c.if-not-well_written.true)
+returns-then-not-well_written c = rw (← c.well_written.ensures, c.if-not-well_written.true)
 
 pub returns-then-not-held_legal : goal.returns-then-not-held_legal
 unfolding alone_legal
-returns-then-not-held_legal c = rw (← c.well_written.ensures, not-false c.well_written.result c.if-not-well_written.false-raw, ← c.held_legal.ensures, not-true c.held_legal.result c.if-not-held_legal.true)
+returns-then-not-held_legal c = rw (← c.well_written.ensures, c.if-not-well_written.false, ← c.held_legal.ensures, c.if-not-held_legal.true)
 
 pub returns-then-not-resting_legal : goal.returns-then-not-resting_legal
 unfolding alone_legal
 returns-then-not-resting_legal c =
-    rw (← c.well_written.ensures, not-false c.well_written.result c.if-not-well_written.false-raw, ← c.held_legal.ensures, not-false c.held_legal.result c.if-not-held_legal.false-raw, ← c.resting_legal.ensures, not-true c.resting_legal.result c.if-not-resting_legal.true)
+    rw (← c.well_written.ensures, c.if-not-well_written.false, ← c.held_legal.ensures, c.if-not-held_legal.false, ← c.resting_legal.ensures, c.if-not-resting_legal.true)
 
 pub returns : goal.returns
 unfolding alone_legal
 returns c =
-    rw (← c.well_written.ensures, not-false c.well_written.result c.if-not-well_written.false-raw, ← c.held_legal.ensures, not-false c.held_legal.result c.if-not-held_legal.false-raw, ← c.resting_legal.ensures, not-false c.resting_legal.result c.if-not-resting_legal.false-raw) c.waiting_legal.ensures
+    rw (← c.well_written.ensures, c.if-not-well_written.false, ← c.held_legal.ensures, c.if-not-held_legal.false, ← c.resting_legal.ensures, c.if-not-resting_legal.false) c.waiting_legal.ensures

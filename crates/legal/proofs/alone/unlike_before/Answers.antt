@@ -13,7 +13,7 @@ pub loop-j-init : goal.loop-j-init
 loop-j-init c = (search rules, below_none _)
 
 pub returns-then-not-unlike : goal.returns-then-not-unlike
-returns-then-not-unlike c = all_left _ _ _ c.loop-j-test.true (sym c.unlike.ensures ∙ not-true _ c.if-not-unlike.true)
+returns-then-not-unlike c = all_left _ _ _ c.loop-j-test.true (sym c.unlike.ensures ∙ c.if-not-unlike.true)
 
 pub overflow_add-j : goal.overflow_add-j
 overflow_add-j c = omega arith
@@ -22,7 +22,7 @@ pub loop-j-smaller : goal.loop-j-smaller
 loop-j-smaller c = omega arith
 
 pub loop-j-preserved : goal.loop-j-preserved
-loop-j-preserved c = (omega arith, below_more _ _ c.loop-j.invariant.1 (sym c.unlike.ensures ∙ not-false _ c.if-not-unlike.false-raw))
+loop-j-preserved c = (omega arith, below_more _ _ c.loop-j.invariant.1 (sym c.unlike.ensures ∙ c.if-not-unlike.false))
 
 pub returns : goal.returns
 returns c = all_ended _ _ _ c.loop-j-test.false c.loop-j.invariant.1

@@ -17,14 +17,14 @@ returns-then-t-gt4 c = rw (le-leb _ _ c.if-t-gt3.false, lt-leb _ _ c.if-t-gt4.tr
 pub returns-then-not-rest_free : goal.returns-then-not-rest_free
 unfolding well_written free_at
 returns-then-not-rest_free c =
-    rw (le-leb _ _ c.if-t-gt3.false, le-leb _ _ c.if-t-gt4.false, ← c.rest_free.ensures, not-true c.rest_free.result c.if-not-rest_free.true)
+    rw (le-leb _ _ c.if-t-gt3.false, le-leb _ _ c.if-t-gt4.false, ← c.rest_free.ensures, c.if-not-rest_free.true)
 
 pub returns-then-t-eq3 : goal.returns-then-t-eq3
 unfolding well_written free_at implies is_waiting
 returns-then-t-eq3 c =
-    rw (le-leb _ _ c.if-t-gt3.false, le-leb _ _ c.if-t-gt4.false, ← c.rest_free.ensures, not-false c.rest_free.result c.if-not-rest_free.false-raw, eq-eqb _ _ c.if-t-eq3.true)
+    rw (le-leb _ _ c.if-t-gt3.false, le-leb _ _ c.if-t-gt4.false, ← c.rest_free.ensures, c.if-not-rest_free.false, eq-eqb _ _ c.if-t-eq3.true)
 
 pub returns : goal.returns
 unfolding well_written free_at implies is_waiting
 returns c =
-    rw (le-leb _ _ c.if-t-gt3.false, le-leb _ _ c.if-t-gt4.false, ← c.rest_free.ensures, not-false c.rest_free.result c.if-not-rest_free.false-raw, ne_eqb _ _ c.if-t-eq3.false)
+    rw (le-leb _ _ c.if-t-gt3.false, le-leb _ _ c.if-t-gt4.false, ← c.rest_free.ensures, c.if-not-rest_free.false, ne_eqb _ _ c.if-t-eq3.false)

@@ -10,7 +10,7 @@ use Rattle.legal.proofs.apart.apart_from.Goals as goal
 
 pub returns-then-not-in_section : goal.returns-then-not-in_section
 unfolding apart_from in_section is_global
-returns-then-not-in_section c = apart_outside _ _ _ _ _ (sym (rw c.task_at.ensures at c.in_section.ensures) ∙ not-true _ c.if-not-in_section.true)
+returns-then-not-in_section c = apart_outside _ _ _ _ _ (sym (rw c.task_at.ensures at c.in_section.ensures) ∙ c.if-not-in_section.true)
 
 pub returns : goal.returns
 unfolding apart_from

@@ -16,7 +16,7 @@ pub loop-c-init : goal.loop-c-init
 loop-c-init c = (search rules, below_none _)
 
 pub returns-then-not-counts_fit : goal.returns-then-not-counts_fit
-returns-then-not-counts_fit c = all_left _ _ _ c.loop-c-test.true (sym c.counts_fit.ensures ∙ not-true _ c.if-not-counts_fit.true)
+returns-then-not-counts_fit c = all_left _ _ _ c.loop-c-test.true (sym c.counts_fit.ensures ∙ c.if-not-counts_fit.true)
 
 pub overflow_add-c : goal.overflow_add-c
 overflow_add-c c = omega arith
@@ -25,7 +25,7 @@ pub loop-c-smaller : goal.loop-c-smaller
 loop-c-smaller c = omega arith
 
 pub loop-c-preserved : goal.loop-c-preserved
-loop-c-preserved c = (omega arith, below_more _ _ c.loop-c.invariant.1 (sym c.counts_fit.ensures ∙ not-false _ c.if-not-counts_fit.false-raw))
+loop-c-preserved c = (omega arith, below_more _ _ c.loop-c.invariant.1 (sym c.counts_fit.ensures ∙ c.if-not-counts_fit.false))
 
 pub returns : goal.returns
 returns c = all_ended _ _ _ c.loop-c-test.false c.loop-c.invariant.1

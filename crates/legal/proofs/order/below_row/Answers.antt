@@ -8,8 +8,8 @@ use Rattle.legal.proofs.order.below_row.Goals as goal
 
 pub returns-then-not-active_before : goal.returns-then-not-active_before
 unfolding below_row implies
-returns-then-not-active_before c = rw (← c.active_before.ensures, not-true c.active_before.result c.if-not-active_before.true)
+returns-then-not-active_before c = rw (← c.active_before.ensures, c.if-not-active_before.true)
 
 pub returns : goal.returns
 unfolding below_row implies taken_before
-returns c = rw (← c.active_before.ensures, not-false c.active_before.result c.if-not-active_before.false-raw)
+returns c = rw (← c.active_before.ensures, c.if-not-active_before.false)

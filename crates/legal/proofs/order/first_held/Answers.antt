@@ -15,8 +15,8 @@ returns-then-t-eq3 c = rw (eq-eqb _ _ c.if-t-eq3.true) (c.all_below_row.ensures 
 
 pub returns-then-not-in_section : goal.returns-then-not-in_section
 unfolding first_held implies is_waiting
-returns-then-not-in_section c = rw (ne_eqb _ _ c.if-t-eq3.false, ← section_reads, ← c.in_section.ensures, not-true c.in_section.result c.if-not-in_section.true)
+returns-then-not-in_section c = rw (ne_eqb _ _ c.if-t-eq3.false, ← section_reads, ← c.in_section.ensures, c.if-not-in_section.true)
 
 pub returns : goal.returns
 unfolding first_held implies is_waiting
-returns c = rw (ne_eqb _ _ c.if-t-eq3.false, ← section_reads, ← c.in_section.ensures, not-false c.in_section.result c.if-not-in_section.false-raw) (c.all_below_row-2.ensures ∙ none_before _ _ _ _)
+returns c = rw (ne_eqb _ _ c.if-t-eq3.false, ← section_reads, ← c.in_section.ensures, c.if-not-in_section.false) (c.all_below_row-2.ensures ∙ none_before _ _ _ _)

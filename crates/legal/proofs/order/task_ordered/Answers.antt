@@ -7,9 +7,9 @@ use Rattle.legal.proofs.order.task_ordered.Goals as goal
 
 pub returns-then-not-all_below_held : goal.returns-then-not-all_below_held
 unfolding ordered
-returns-then-not-all_below_held c = rw (← c.task_at-t.ensures, ← below_held_reads, ← c.all_below_held.ensures, not-true c.all_below_held.result c.if-not-all_below_held.true)
+returns-then-not-all_below_held c = rw (← c.task_at-t.ensures, ← below_held_reads, ← c.all_below_held.ensures, c.if-not-all_below_held.true)
 
 pub returns : goal.returns
 unfolding ordered
 returns c =
-    rw (← c.task_at-t.ensures, ← below_held_reads, ← c.all_below_held.ensures, not-false c.all_below_held.result c.if-not-all_below_held.false-raw, ← first_held_reads) c.first_held.ensures
+    rw (← c.task_at-t.ensures, ← below_held_reads, ← c.all_below_held.ensures, c.if-not-all_below_held.false, ← first_held_reads) c.first_held.ensures

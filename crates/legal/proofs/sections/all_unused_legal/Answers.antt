@@ -16,7 +16,7 @@ pub loop-c-init : goal.loop-c-init
 loop-c-init c = (search rules, below_none _)
 
 pub returns-then-not-unused_legal : goal.returns-then-not-unused_legal
-returns-then-not-unused_legal c = all_left _ _ _ c.loop-c-test.true (sym c.unused_legal.ensures ∙ not-true _ c.if-not-unused_legal.true)
+returns-then-not-unused_legal c = all_left _ _ _ c.loop-c-test.true (sym c.unused_legal.ensures ∙ c.if-not-unused_legal.true)
 
 pub overflow_add-c : goal.overflow_add-c
 overflow_add-c c = omega arith
@@ -25,7 +25,7 @@ pub loop-c-smaller : goal.loop-c-smaller
 loop-c-smaller c = omega arith
 
 pub loop-c-preserved : goal.loop-c-preserved
-loop-c-preserved c = (omega arith, below_more _ _ c.loop-c.invariant.1 (sym c.unused_legal.ensures ∙ not-false _ c.if-not-unused_legal.false-raw))
+loop-c-preserved c = (omega arith, below_more _ _ c.loop-c.invariant.1 (sym c.unused_legal.ensures ∙ c.if-not-unused_legal.false))
 
 pub returns : goal.returns
 returns c = all_ended _ _ _ c.loop-c-test.false c.loop-c.invariant.1

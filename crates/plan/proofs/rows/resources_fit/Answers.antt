@@ -15,7 +15,7 @@ pub loop-r-init : goal.loop-r-init
 loop-r-init c = (search rules, below_none _)
 
 pub returns-then-not-resource_fits : goal.returns-then-not-resource_fits
-returns-then-not-resource_fits c = all_left _ _ _ c.loop-r-test.true (sym c.resource_fits.ensures ∙ not-true _ c.if-not-resource_fits.true)
+returns-then-not-resource_fits c = all_left _ _ _ c.loop-r-test.true (sym c.resource_fits.ensures ∙ c.if-not-resource_fits.true)
 
 pub overflow_add-r : goal.overflow_add-r
 overflow_add-r c = omega arith
@@ -24,7 +24,7 @@ pub loop-r-smaller : goal.loop-r-smaller
 loop-r-smaller c = omega arith
 
 pub loop-r-preserved : goal.loop-r-preserved
-loop-r-preserved c = (omega arith, below_more _ _ c.loop-r.invariant.1 (sym c.resource_fits.ensures ∙ not-false _ c.if-not-resource_fits.false-raw))
+loop-r-preserved c = (omega arith, below_more _ _ c.loop-r.invariant.1 (sym c.resource_fits.ensures ∙ c.if-not-resource_fits.false))
 
 pub returns : goal.returns
 returns c = all_ended _ _ _ c.loop-r-test.false c.loop-r.invariant.1

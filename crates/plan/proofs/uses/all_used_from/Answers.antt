@@ -14,7 +14,7 @@ pub loop-t-init : goal.loop-t-init
 loop-t-init c = (search rules, below_none _)
 
 pub returns-then-not-used_from : goal.returns-then-not-used_from
-returns-then-not-used_from c = all_left _ _ _ c.loop-t-test.true (sym c.used_from.ensures ∙ not-true _ c.if-not-used_from.true)
+returns-then-not-used_from c = all_left _ _ _ c.loop-t-test.true (sym c.used_from.ensures ∙ c.if-not-used_from.true)
 
 pub overflow_add-t : goal.overflow_add-t
 overflow_add-t c = omega arith
@@ -23,7 +23,7 @@ pub loop-t-smaller : goal.loop-t-smaller
 loop-t-smaller c = omega arith
 
 pub loop-t-preserved : goal.loop-t-preserved
-loop-t-preserved c = (omega arith, below_more _ _ c.loop-t.invariant.1 (sym c.used_from.ensures ∙ not-false _ c.if-not-used_from.false-raw))
+loop-t-preserved c = (omega arith, below_more _ _ c.loop-t.invariant.1 (sym c.used_from.ensures ∙ c.if-not-used_from.false))
 
 pub returns : goal.returns
 returns c = all_ended _ _ _ c.loop-t-test.false c.loop-t.invariant.1

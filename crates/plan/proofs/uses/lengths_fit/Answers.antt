@@ -14,7 +14,7 @@ pub loop-t-init : goal.loop-t-init
 loop-t-init c = (search rules, below_none _)
 
 pub returns-then-not-task_uses_fit : goal.returns-then-not-task_uses_fit
-returns-then-not-task_uses_fit c = all_left _ _ _ c.loop-t-test.true (sym c.task_uses_fit.ensures ∙ not-true _ c.if-not-task_uses_fit.true)
+returns-then-not-task_uses_fit c = all_left _ _ _ c.loop-t-test.true (sym c.task_uses_fit.ensures ∙ c.if-not-task_uses_fit.true)
 
 pub overflow_add-t : goal.overflow_add-t
 overflow_add-t c = omega arith
@@ -23,7 +23,7 @@ pub loop-t-smaller : goal.loop-t-smaller
 loop-t-smaller c = omega arith
 
 pub loop-t-preserved : goal.loop-t-preserved
-loop-t-preserved c = (omega arith, below_more _ _ c.loop-t.invariant.1 (sym c.task_uses_fit.ensures ∙ not-false _ c.if-not-task_uses_fit.false-raw))
+loop-t-preserved c = (omega arith, below_more _ _ c.loop-t.invariant.1 (sym c.task_uses_fit.ensures ∙ c.if-not-task_uses_fit.false))
 
 pub returns : goal.returns
 returns c = all_ended _ _ _ c.loop-t-test.false c.loop-t.invariant.1

@@ -16,7 +16,7 @@ loop-r-init c = (search rules, below_none _)
 
 pub returns-then-not-use_fits : goal.returns-then-not-use_fits
 unfolding task_uses_fit
-returns-then-not-use_fits c = all_left _ _ _ c.loop-r-test.true (sym c.use_fits.ensures ∙ not-true _ c.if-not-use_fits.true)
+returns-then-not-use_fits c = all_left _ _ _ c.loop-r-test.true (sym c.use_fits.ensures ∙ c.if-not-use_fits.true)
 
 pub overflow_add-r : goal.overflow_add-r
 overflow_add-r c = omega arith
@@ -25,7 +25,7 @@ pub loop-r-smaller : goal.loop-r-smaller
 loop-r-smaller c = omega arith
 
 pub loop-r-preserved : goal.loop-r-preserved
-loop-r-preserved c = (omega arith, below_more _ _ c.loop-r.invariant.1 (sym c.use_fits.ensures ∙ not-false _ c.if-not-use_fits.false-raw))
+loop-r-preserved c = (omega arith, below_more _ _ c.loop-r.invariant.1 (sym c.use_fits.ensures ∙ c.if-not-use_fits.false))
 
 pub returns : goal.returns
 unfolding task_uses_fit

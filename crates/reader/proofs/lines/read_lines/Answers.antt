@@ -19,7 +19,7 @@ head c = c
 
 passed : (c : goal.Else-not-is_accepted)
     → is_accepted (judged (plan_of (head c).loop.t (head c).loop.lengths) (head c).loop.last (head c).loop.n c.line_of-l.result) ≡ true
-passed c = sym (ap is_accepted c.judge-v.ensures) ∙ sym c.is_accepted.ensures ∙ not-false _ c.if-not-is_accepted.false-raw
+passed c = sym (ap is_accepted c.judge-v.ensures) ∙ sym c.is_accepted.ensures ∙ c.if-not-is_accepted.false
 
 has_room : (c : goal.Else-not-is_accepted) → Room (plan_of (head c).loop.t (head c).loop.lengths) c.line_of-l.result
 has_room c = room _ _ _ _ (head c).loop.invariant.1 (accepted_is _ (passed c))
@@ -40,7 +40,7 @@ returns-then-not-is_accepted c =
     ∙ sym
     (c.loop-at.invariant.0
     ∙ read_refused _ _ _ c.find-end.ensures _ _ _ c.if-text-end.false c.line_of-l.ensures
-    (sym (ap is_accepted c.judge-v.ensures) ∙ sym c.is_accepted.ensures ∙ not-true _ c.if-not-is_accepted.true))
+    (sym (ap is_accepted c.judge-v.ensures) ∙ sym c.is_accepted.ensures ∙ c.if-not-is_accepted.true))
 
 pub slice_bounds-with_line-end : goal.slice_bounds-with_line-end
 slice_bounds-with_line-end c = sym (head c).loop.inv.3

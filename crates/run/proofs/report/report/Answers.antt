@@ -9,9 +9,9 @@ use Rattle.run.proofs.report.report.Goals as goal
 pub returns-then-not-has_margins : goal.returns-then-not-has_margins
 unfolding has_margins
 returns-then-not-has_margins c =
-    rw (lines_refused c.args.text.now c.read-r.ensures (sym c.has_margins.ensures ∙ not-true _ c.if-not-has_margins.true)) at c.put_refusal.ensures
+    rw (lines_refused c.args.text.now c.read-r.ensures (sym c.has_margins.ensures ∙ c.if-not-has_margins.true)) at c.put_refusal.ensures
 
 pub returns : goal.returns
 unfolding has_margins
 returns c =
-    rw (lines_rows c.args.text.now c.read-r.ensures (sym c.has_margins.ensures ∙ not-false _ c.if-not-has_margins.false-raw)) at c.report_rows.ensures
+    rw (lines_rows c.args.text.now c.read-r.ensures (sym c.has_margins.ensures ∙ c.if-not-has_margins.false)) at c.report_rows.ensures

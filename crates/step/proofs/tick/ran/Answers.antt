@@ -15,12 +15,12 @@ returns-then-rows-k c = λ p R z h. sym (ran_nobody p _ _ (omega (arith, tasks_l
 
 pub returns-then-not-in_section : goal.returns-then-not-in_section
 returns-then-not-in_section c = λ p R z h.
-    let out = sym (section_lent p _ _ R _) ∙ sym c.in_section.ensures ∙ not-true c.in_section.result c.if-not-in_section.true in
+    let out = sym (section_lent p _ _ R _) ∙ sym c.in_section.ensures ∙ c.if-not-in_section.true in
     ran_out p _ _ _ _ (c.task_at.ensures ∙ task_reads _ _) c.started-t.ensures (omega (arith, tasks_lent p _ _ R, c.if-rows-k.false)) _ (c.put_task.ensures _ z _) out
 
 pub returns : goal.returns
 unfolding used_of
 returns c = λ p R z h.
-    let inside = sym (section_lent p _ _ R _) ∙ sym c.in_section.ensures ∙ not-false c.in_section.result c.if-not-in_section.false-raw in
+    let inside = sym (section_lent p _ _ R _) ∙ sym c.in_section.ensures ∙ c.if-not-in_section.false in
     ran_in p _ _ _ _ (c.task_at.ensures ∙ task_reads _ _) c.started-t.ensures (omega (arith, tasks_lent p _ _ R, c.if-rows-k.false)) _ _ _ _ _
     (c.put_task.ensures _ z _) inside (c.byte_at-c.ensures ∙ owner_lent p _ _ R _) c.word_at.ensures c.one_more.ensures (c.with_used.ensures _ _ _ _) h
