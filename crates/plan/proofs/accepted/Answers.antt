@@ -1,10 +1,8 @@
 -- The conditions in their order: a false one decides, and a true one leaves the rest.
 use mathlib.Core.Path.{sym, ◌∙◌}
-use borrow.Author.Tests.{not-true, not-false}
 use Rattle.plan.specs.Admission.{admitted}
 use Rattle.plan.specs.Accepted.{accepted}
 use Rattle.plan.specs.Lent.{rows_fit, uses_fit, task_uses_fit}
-use borrow.Author.Rules.{rules}
 use Rattle.plan.proofs.accepted.Goals as goal
 
 pub returns-then-not-rows_fit : goal.returns-then-not-rows_fit

@@ -1,7 +1,6 @@
 -- The tables that were not lent do not stand in the definition.
 use Rattle.plan.specs.Plan.{owner, is_global, length_of, declares, level}
 use Rattle.plan.specs.Admission.{blocking}
-use borrow.Author.Rules.{rules}
 use Rattle.plan.proofs.blocking.Goals as goal
 
 pub returns : goal.returns

@@ -1,15 +1,10 @@
 -- The loop's invariant: no row passed has a negative margin.
-use native.Mathlib.Omega.{arith}
-use borrow.Author.Rules.{rules}
 use mathlib.Core.Path.{◌≡◌}
 use mathlib.Core.Bool.{false}
 use Prim.Native.Nat.{ℕ, ◌≤◌, ◌<◌, ◌-◌}
 use lib.Dec.{ltb}
-use borrow.Author.Count.{below_none, below_more}
-use borrow.Author.Tests.{lt-ltb, le-ltb}
-use Rattle.below.proofs.Loops.{first_left, first_ended}
 use Rattle.plan.specs.Plan.{period}
-use Rattle.plan.specs.Admission.{demand, first_negative}
+use Rattle.plan.specs.Admission.{demand}
 use Rattle.plan.proofs.first_negative.Given as goal
 
 abbrev pub invariant-loop-s : goal.invariant-loop-s

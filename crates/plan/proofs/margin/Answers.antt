@@ -14,4 +14,4 @@ overflow_sub-result c = difference_fits c.word_at-period.result c.demand_of-d.re
 pub returns : goal.returns
 unfolding margin period
 returns c =
-    difference_is c.word_at-period.result c.demand_of-d.result (search rules) (search rules) ∙ ap₂ (λ (m n : ℕ). pos m -ℤ pos n) c.word_at-period.ensures c.demand_of-d.ensures.0
+    difference_is c.word_at-period.result c.demand_of-d.result (search rules) (search rules) ∙ ap₂ (λ (m n : ℕ). pos m -ℤ pos n) c.word_at-period.ensures c.demand_of-d.ensures.value

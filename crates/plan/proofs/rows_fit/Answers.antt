@@ -1,10 +1,8 @@
 -- The conditions in their order: a false one decides, and a true one leaves the rest.
 use mathlib.Core.Path.{sym, ◌∙◌}
-use borrow.Author.Tests.{not-true, not-false}
 use Rattle.plan.specs.Plan.{period, budget, owner}
 use Rattle.plan.specs.Accepted.{counts_fit, subsystem_fits, task_fits, resource_fits}
 use Rattle.plan.specs.Lent.{rows_fit}
-use borrow.Author.Rules.{rules}
 use Rattle.plan.proofs.rows_fit.Goals as goal
 
 pub returns-then-not-counts_fit : goal.returns-then-not-counts_fit

@@ -1,10 +1,8 @@
 -- The conditions in their order: a false one decides, and a true one leaves the rest.
 use mathlib.Core.Path.{sym, ◌∙◌}
-use borrow.Author.Tests.{not-true, not-false}
 use Rattle.plan.specs.Plan.{budget, owner, is_global, length_of, declares}
 use Rattle.plan.specs.Accepted.{length_fits, use_fits, one_subsystem}
 use Rattle.plan.specs.Lent.{uses_fit, task_uses_fit}
-use borrow.Author.Rules.{rules}
 use Rattle.plan.proofs.uses_fit.Goals as goal
 
 pub returns-then-not-lengths_fit : goal.returns-then-not-lengths_fit

@@ -16,3 +16,7 @@ overflow_mul-result c = omega (arith, c.shared_slice_known-2-1.given (c.args.at 
 
 pub overflow_add-result-2 : goal.overflow_add-result-2
 overflow_add-result-2 c = omega (arith, c.shared_slice_known-1.given c.args.at, c.shared_slice_known-2-1.given (c.args.at + 1))
+
+pub returns : goal.returns
+unfolding word_at byte_at
+returns c = search rules

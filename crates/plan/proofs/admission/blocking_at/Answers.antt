@@ -2,7 +2,6 @@
 use borrow.Author.Tests.{eq-eqb, ne_eqb, le-leb, lt-leb}
 use Rattle.plan.specs.Plan.{owner, is_global, length_of, declares, level}
 use Rattle.plan.specs.Lent.{blocking_at}
-use borrow.Author.Rules.{rules}
 use Rattle.plan.proofs.admission.blocking_at.Goals as goal
 
 pub returns-then-byte_at-ne1 : goal.returns-then-byte_at-ne1

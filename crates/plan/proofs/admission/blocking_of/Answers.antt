@@ -1,15 +1,12 @@
 use mathlib.Core.Path.{◌≡◌, sym}
-use mathlib.Core.List.{[]}
-use Prim.Native.Nat.{◌≤◌, ◌-◌}
 use native.Mathlib.Omega.{arith}
-use mathlib.Core.Logic.{⊎_elim}
 use borrow.Author.Rules.{rules}
-use Rattle.below.specs.Below.{greatest}
 use Rattle.below.proofs.Amounts.{greatest_none, greatest_next}
 use Rattle.plan.specs.Plan.{owner, is_global, length_of, declares, level}
 use Rattle.plan.specs.Admission.{blocking}
-use Rattle.plan.specs.Lent.{lent, blocking_at, blocking_by}
+use Rattle.plan.specs.Lent.{blocking_at, blocking_by}
 use Rattle.plan.proofs.admission.blocking_of.Goals as goal
+use Rattle.plan.proofs.admission.blocking_of.Goals.{then-most-l, else-most-l}
 
 pub loop-t-init : goal.loop-t-init
 loop-t-init c = (search rules, sym (greatest_none _))
@@ -22,7 +19,7 @@ loop-t-smaller c = omega arith
 
 pub loop-t-preserved : goal.loop-t-preserved
 loop-t-preserved c =
-    (search rules, rw greatest_next (⊎_elim (λ w. omega arith) (λ w. omega arith) c.if-most-l.branch))
+    (search rules, rw greatest_next (elim c.if-most-l.branch [ then-most-l w ↦ omega arith | else-most-l w ↦ omega arith ]))
 
 pub returns : goal.returns
 unfolding blocking blocking_by blocking_at is_global declares length_of level owner

@@ -1,11 +1,7 @@
 use mathlib.Core.Path.{◌≡◌, sym}
-use mathlib.Core.List.{[]}
-use Prim.Native.Nat.{◌≤◌, ◌-◌, ◌*◌, ◌^◌}
 use native.Mathlib.Omega.{arith}
 use borrow.Author.Rules.{rules}
-use Rattle.below.specs.Below.{sum}
 use Rattle.below.proofs.Amounts.{sum_none, sum_next}
-use Rattle.plan.specs.Lent.{lent, demand_by}
 use Rattle.plan.proofs.admission.demand_before.Goals as goal
 
 pub loop-h-init : goal.loop-h-init
@@ -26,4 +22,4 @@ loop-h-preserved c = (omega arith, rw sum_next (cc), omega arith)
 pub returns : goal.returns
 returns c =
     let e : c.loop-h.h ≡ c.args.subsystems = omega arith in
-    (rw e at c.loop-h.invariant.1, omega arith)
+    record { value = rw e at c.loop-h.invariant.1; upper_bound = omega arith }

@@ -1,11 +1,8 @@
 -- The loop's invariant: the sum over the rows passed, and a bound of 33 bits for each of them.
-use mathlib.Core.Path.{◌≡◌, sym}
+use mathlib.Core.Path.{◌≡◌}
 use mathlib.Core.List.{[]}
 use Prim.Native.Nat.{◌≤◌, ◌-◌, ◌*◌, ◌^◌}
-use native.Mathlib.Omega.{arith}
-use borrow.Author.Rules.{rules}
 use Rattle.below.specs.Below.{sum}
-use Rattle.below.proofs.Amounts.{sum_none, sum_next}
 use Rattle.plan.specs.Lent.{lent, demand_by}
 use Rattle.plan.proofs.admission.demand_before.Given as goal
 

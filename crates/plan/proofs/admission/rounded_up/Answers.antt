@@ -8,8 +8,8 @@ use Rattle.plan.proofs.admission.rounded_up.Goals as goal
 
 pub returns-then-p-eq0 : goal.returns-then-p-eq0
 unfolding rounded_up
-returns-then-p-eq0 c = (rw c.if-p-eq0.true (sym (div-zero _)), search rules)
+returns-then-p-eq0 c = record { value = rw c.if-p-eq0.true (sym (div-zero _)); upper_bound = search rules }
 
 pub returns : goal.returns
 unfolding rounded_up
-returns c = (refl, lt_of_le_of_lt (div-le_self _ _) (omega arith))
+returns c = record { value = refl; upper_bound = lt_of_le_of_lt (div-le_self _ _) (omega arith) }

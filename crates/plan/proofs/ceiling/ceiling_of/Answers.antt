@@ -2,7 +2,6 @@
 use borrow.Author.Tests.{eq-eqb, ne_eqb}
 use Rattle.plan.specs.Plan.{owner, is_global, length_of, declares, level, foremost}
 use Rattle.plan.specs.Ceiling.{ceiling, global_ceiling, local_ceiling}
-use borrow.Author.Rules.{rules}
 use Rattle.plan.proofs.ceiling.ceiling_of.Goals as goal
 
 pub returns-then-byte_at-eq1 : goal.returns-then-byte_at-eq1

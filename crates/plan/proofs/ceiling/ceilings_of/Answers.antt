@@ -1,10 +1,6 @@
 use native.Mathlib.Omega.{arith}
 use borrow.Author.Rules.{rules}
-use mathlib.Core.List.{[]}
-use Prim.Native.Nat.{◌-◌}
-use Rattle.below.proofs.Listed.{Filled, filled_begun, filled_turn, filled_whole}
-use Rattle.plan.specs.Ceiling.{ceiling}
-use Rattle.plan.specs.Lent.{lent}
+use Rattle.below.proofs.Listed.{filled_begun, filled_turn, filled_whole}
 use Rattle.plan.proofs.ceiling.ceilings_of.Goals as goal
 
 pub loop-r-init : goal.loop-r-init

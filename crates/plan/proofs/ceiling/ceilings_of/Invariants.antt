@@ -1,9 +1,7 @@
 -- The loop's invariant: the entries passed are the ceilings.
-use native.Mathlib.Omega.{arith}
-use borrow.Author.Rules.{rules}
 use mathlib.Core.List.{[]}
 use Prim.Native.Nat.{◌-◌}
-use Rattle.below.proofs.Listed.{Filled, filled_begun, filled_turn, filled_whole}
+use Rattle.below.proofs.Listed.{Filled}
 use Rattle.plan.specs.Ceiling.{ceiling}
 use Rattle.plan.specs.Lent.{lent}
 use Rattle.plan.proofs.ceiling.ceilings_of.Given as goal

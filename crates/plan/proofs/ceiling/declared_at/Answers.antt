@@ -1,13 +1,10 @@
 use native.Mathlib.Omega.{arith}
 use borrow.Author.Rules.{rules}
-use mathlib.Core.Path.{◌≡◌, sym, ◌∙◌}
-use mathlib.Core.Bool.{false}
-use mathlib.Core.List.{[]}
-use Prim.Native.Nat.{ℕ, ◌≤◌, ◌<◌, ◌-◌}
+use mathlib.Core.Path.{sym, ◌∙◌}
 use borrow.Author.Count.{below_none, below_more}
 use Rattle.below.proofs.Loops.{any_left, any_ended}
 use Rattle.plan.specs.Plan.{owner, length_of, declares, level}
-use Rattle.plan.specs.Lent.{lent, declares_at, declared_at}
+use Rattle.plan.specs.Lent.{declares_at, declared_at}
 use Rattle.plan.proofs.ceiling.declared_at.Goals as goal
 
 pub loop-t-init : goal.loop-t-init

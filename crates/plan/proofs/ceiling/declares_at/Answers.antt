@@ -2,7 +2,6 @@
 use borrow.Author.Tests.{eq-eqb, ne_eqb}
 use Rattle.plan.specs.Plan.{owner, length_of, declares, level}
 use Rattle.plan.specs.Lent.{declares_at}
-use borrow.Author.Rules.{rules}
 use Rattle.plan.proofs.ceiling.declares_at.Goals as goal
 
 pub returns-then-byte_at-l : goal.returns-then-byte_at-l

@@ -1,14 +1,11 @@
 use native.Mathlib.Omega.{arith}
 use borrow.Author.Rules.{rules}
-use mathlib.Core.Path.{◌≡◌, sym, ◌∙◌}
-use mathlib.Core.Bool.{false}
-use mathlib.Core.List.{[]}
-use Prim.Native.Nat.{ℕ, ◌≤◌, ◌<◌, ◌-◌}
+use mathlib.Core.Path.{sym, ◌∙◌}
 use borrow.Author.Count.{below_none, below_more}
 use Rattle.below.proofs.Loops.{first_left, first_ended}
 use Rattle.plan.specs.Plan.{owner, length_of, declares, level}
 use Rattle.plan.specs.Ceiling.{global_ceiling}
-use Rattle.plan.specs.Lent.{lent, declares_at, declared_at}
+use Rattle.plan.specs.Lent.{declares_at, declared_at}
 use Rattle.plan.proofs.ceiling.global_ceiling.Goals as goal
 
 pub loop-l-init : goal.loop-l-init

@@ -1,7 +1,6 @@
 -- Each test on the way is one of those that the definition joins, for a row that is there and for one that is not.
 use borrow.Author.Tests.{le-leb, lt-leb, le-ltb, lt-ltb}
 use Rattle.plan.specs.Accepted.{resource_fits}
-use borrow.Author.Rules.{rules}
 use Rattle.plan.proofs.rows.resource_fits.Goals as goal
 
 pub returns-then-resources-r : goal.returns-then-resources-r

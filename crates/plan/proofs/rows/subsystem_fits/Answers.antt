@@ -2,7 +2,6 @@
 use borrow.Author.Tests.{eq-eqb, ne_eqb, le-leb, lt-leb, le-ltb, lt-ltb}
 use Rattle.plan.specs.Plan.{period, budget}
 use Rattle.plan.specs.Accepted.{subsystem_fits}
-use borrow.Author.Rules.{rules}
 use Rattle.plan.proofs.rows.subsystem_fits.Goals as goal
 
 pub returns-then-period-ne0 : goal.returns-then-period-ne0

@@ -2,7 +2,6 @@
 use borrow.Author.Tests.{le-leb, lt-leb, le-ltb, lt-ltb}
 use Rattle.plan.specs.Plan.{owner}
 use Rattle.plan.specs.Accepted.{task_fits}
-use borrow.Author.Rules.{rules}
 use Rattle.plan.proofs.rows.task_fits.Goals as goal
 
 pub returns-then-tasks-t : goal.returns-then-tasks-t

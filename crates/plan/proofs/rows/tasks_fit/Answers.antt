@@ -1,14 +1,8 @@
 use native.Mathlib.Omega.{arith}
 use borrow.Author.Rules.{rules}
-use mathlib.Core.Path.{◌≡◌, sym, ◌∙◌}
-use mathlib.Core.Bool.{true}
-use mathlib.Core.List.{[]}
-use Prim.Native.Nat.{ℕ, ◌≤◌, ◌<◌, ◌-◌}
+use mathlib.Core.Path.{sym, ◌∙◌}
 use borrow.Author.Count.{below_none, below_more}
-use borrow.Author.Tests.{not-true, not-false}
 use Rattle.below.proofs.Loops.{all_left, all_ended}
-use Rattle.plan.specs.Accepted.{task_fits}
-use Rattle.plan.specs.Lent.{lent}
 use Rattle.plan.proofs.rows.tasks_fit.Goals as goal
 
 pub loop-t-init : goal.loop-t-init

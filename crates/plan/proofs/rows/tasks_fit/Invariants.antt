@@ -1,13 +1,8 @@
 -- The loop's invariant: every row passed fits.
-use native.Mathlib.Omega.{arith}
-use borrow.Author.Rules.{rules}
-use mathlib.Core.Path.{◌≡◌, sym, ◌∙◌}
+use mathlib.Core.Path.{◌≡◌}
 use mathlib.Core.Bool.{true}
 use mathlib.Core.List.{[]}
 use Prim.Native.Nat.{ℕ, ◌≤◌, ◌<◌, ◌-◌}
-use borrow.Author.Count.{below_none, below_more}
-use borrow.Author.Tests.{not-true, not-false}
-use Rattle.below.proofs.Loops.{all_left, all_ended}
 use Rattle.plan.specs.Accepted.{task_fits}
 use Rattle.plan.specs.Lent.{lent}
 use Rattle.plan.proofs.rows.tasks_fit.Given as goal

@@ -1,7 +1,6 @@
 -- Past the end the definition reads 0 too.
 use mathlib.Core.Path.{sym}
 use lib.ListN.{get_or-eq_default}
-use borrow.Author.Rules.{rules}
 use Rattle.plan.proofs.tables.byte_at.Goals as goal
 
 pub returns-else-i-a : goal.returns-else-i-a

@@ -1,13 +1,8 @@
 -- The loop's invariant: every task passed that declares the resource is of the subsystem.
-use native.Mathlib.Omega.{arith}
-use borrow.Author.Rules.{rules}
-use mathlib.Core.Path.{◌≡◌, sym, ◌∙◌}
+use mathlib.Core.Path.{◌≡◌}
 use mathlib.Core.Bool.{true}
 use mathlib.Core.List.{[]}
 use Prim.Native.Nat.{ℕ, ◌≤◌, ◌<◌, ◌-◌}
-use borrow.Author.Count.{below_none, below_more}
-use borrow.Author.Tests.{not-true, not-false}
-use Rattle.below.proofs.Loops.{all_left, all_ended}
 use Rattle.plan.specs.Lent.{lent, used_from}
 use Rattle.plan.proofs.uses.all_used_from.Given as goal
 

@@ -2,7 +2,6 @@
 use borrow.Author.Tests.{eq-eqb, ne_eqb, le-leb, lt-leb}
 use Rattle.plan.specs.Plan.{budget, owner, is_global, length_of}
 use Rattle.plan.specs.Accepted.{length_fits}
-use borrow.Author.Rules.{rules}
 use Rattle.plan.proofs.uses.length_fits.Goals as goal
 
 pub returns-then-byte_at-ne1 : goal.returns-then-byte_at-ne1

@@ -8,7 +8,6 @@ use Rattle.plan.specs.Accepted.{one_subsystem}
 use Rattle.plan.specs.Ceiling.{local_ceiling}
 use Rattle.plan.specs.Lent.{lent, used_from}
 use Rattle.plan.proofs.OneSubsystem.{one_pass}
-use borrow.Author.Rules.{rules}
 use Rattle.plan.proofs.uses.one_subsystem.Goals as goal
 
 pub returns-then-byte_at-eq1 : goal.returns-then-byte_at-eq1

@@ -1,14 +1,9 @@
 use native.Mathlib.Omega.{arith}
 use borrow.Author.Rules.{rules}
-use mathlib.Core.Path.{◌≡◌, sym, ◌∙◌}
-use mathlib.Core.Bool.{true}
-use mathlib.Core.List.{[]}
-use Prim.Native.Nat.{ℕ, ◌≤◌, ◌<◌, ◌-◌}
+use mathlib.Core.Path.{sym, ◌∙◌}
 use borrow.Author.Count.{below_none, below_more}
-use borrow.Author.Tests.{not-true, not-false}
 use Rattle.below.proofs.Loops.{all_left, all_ended}
-use Rattle.plan.specs.Accepted.{use_fits}
-use Rattle.plan.specs.Lent.{lent, task_uses_fit}
+use Rattle.plan.specs.Lent.{task_uses_fit}
 use Rattle.plan.proofs.uses.task_uses_fit.Goals as goal
 
 pub loop-r-init : goal.loop-r-init

@@ -1,15 +1,10 @@
 -- The loop's invariant: the task's length at every resource passed fits.
-use native.Mathlib.Omega.{arith}
-use borrow.Author.Rules.{rules}
-use mathlib.Core.Path.{◌≡◌, sym, ◌∙◌}
+use mathlib.Core.Path.{◌≡◌}
 use mathlib.Core.Bool.{true}
 use mathlib.Core.List.{[]}
 use Prim.Native.Nat.{ℕ, ◌≤◌, ◌<◌, ◌-◌}
-use borrow.Author.Count.{below_none, below_more}
-use borrow.Author.Tests.{not-true, not-false}
-use Rattle.below.proofs.Loops.{all_left, all_ended}
 use Rattle.plan.specs.Accepted.{use_fits}
-use Rattle.plan.specs.Lent.{lent, task_uses_fit}
+use Rattle.plan.specs.Lent.{lent}
 use Rattle.plan.proofs.uses.task_uses_fit.Given as goal
 
 abbrev pub invariant-loop-r : goal.invariant-loop-r

@@ -4,7 +4,6 @@ use mathlib.Core.Bool.{or-false}
 use borrow.Author.Tests.{eq-eqb, ne_eqb, le-leb, lt-leb, le-ltb, lt-ltb}
 use Rattle.plan.specs.Plan.{budget, owner, is_global, length_of, declares}
 use Rattle.plan.specs.Accepted.{use_fits, length_fits}
-use borrow.Author.Rules.{rules}
 use Rattle.plan.proofs.uses.use_fits.Goals as goal
 
 pub returns-then-tasks-t : goal.returns-then-tasks-t

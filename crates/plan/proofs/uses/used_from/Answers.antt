@@ -2,7 +2,6 @@
 use borrow.Author.Tests.{eq-eqb, ne_eqb}
 use Rattle.plan.specs.Plan.{owner, length_of, declares}
 use Rattle.plan.specs.Lent.{used_from}
-use borrow.Author.Rules.{rules}
 use Rattle.plan.proofs.uses.used_from.Goals as goal
 
 pub returns-then-length_at : goal.returns-then-length_at

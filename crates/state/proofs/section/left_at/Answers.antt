@@ -6,6 +6,10 @@ use lib.ListN.{get_or-eq_default, length}
 use borrow.Author.Rules.{rules}
 use Rattle.state.proofs.section.left_at.Goals as goal
 
+pub returns-then-c-lt8 : goal.returns-then-c-lt8
+unfolding left_of
+returns-then-c-lt8 c = search rules
+
 pub returns-else-c-lt8 : goal.returns-else-c-lt8
 unfolding left_of
 returns-else-c-lt8 c = let e : length c.args.t1 ≡ 8 = search rules in
