@@ -14,4 +14,4 @@ returns-then-not-all_ordered c = rw (← c.all_ordered.ensures, c.if-not-all_ord
 pub returns : goal.returns
 unfolding order_pass ordered below_held below_row first_held apart_from apart active_before task_at in_section is_active is_started is_waiting owner is_global level taken_before
 returns c =
-    rw (← c.all_ordered.ensures, c.if-not-all_ordered.false) c.All-apart.ensures
+    rw (← c.all_ordered.ensures, c.if-not-all_ordered.false) c.all_apart.ensures

@@ -14,7 +14,7 @@ use borrow.Author.Rules.{rules}
 use Rattle.legal.proofs.alone.held_legal.Given as goal
 
 abbrev pub invariant-loop-i : goal.invariant-loop-i
-invariant-loop-i l = (l.i ≤ l.n) × ((l.n : ℕ) → l.n < l.i → held_one (lent 0 0 l.resources [] [] [] l.kinds l.lengths) l.k l.t l.n ≡ true)
+invariant-loop-i l = (l.i ≤ l.n) × ((m : ℕ) → m < l.i → held_one (lent 0 0 l.resources [] [] [] l.kinds l.lengths) l.k l.t m ≡ true)
 
 abbrev pub decreases-loop-i : goal.decreases-loop-i
 decreases-loop-i l = l.n - l.i

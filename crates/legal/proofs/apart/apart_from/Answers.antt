@@ -14,4 +14,4 @@ returns-then-not-in_section c = apart_outside _ _ _ _ _ (sym (rw c.task_at.ensur
 
 pub returns : goal.returns
 unfolding apart_from
-returns c = rw (← apart_reads) c.All-from.ensures
+returns c = rw (← apart_reads) c.all_from.ensures

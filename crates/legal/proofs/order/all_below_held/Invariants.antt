@@ -14,7 +14,7 @@ use borrow.Author.Rules.{rules}
 use Rattle.legal.proofs.order.all_below_held.Given as goal
 
 abbrev pub invariant-loop-i : goal.invariant-loop-i
-invariant-loop-i l = (l.i ≤ l.n) × ((l.n : ℕ) → l.n < l.i → below_held (lent 0 l.tasks 0 [] [] l.owners l.kinds []) l.ceilings (columns [] [] [] l.conditions [] [] []) l.k l.t l.n ≡ true)
+invariant-loop-i l = (l.i ≤ l.n) × ((m : ℕ) → m < l.i → below_held (lent 0 l.tasks 0 [] [] l.owners l.kinds []) l.ceilings (columns [] [] [] l.conditions [] [] []) l.k l.t m ≡ true)
 
 abbrev pub decreases-loop-i : goal.decreases-loop-i
 decreases-loop-i l = l.n - l.i

@@ -8,9 +8,6 @@ use Rattle.below.proofs.Listed.{Filled, filled_begun, filled_turn, filled_whole}
 use Rattle.state.specs.declared.BudgetLeft.{BudgetLeft}
 use Rattle.state.proofs.beginning.full_budgets.Goals as goal
 
-abbrev budget_at : List ℕ → ℕ → BudgetLeft
-budget_at budgets k = record { 0 = get_or budgets k 0 }
-
 pub loop-c-init : goal.loop-c-init
 loop-c-init c = filled_begun (search rules) (omega arith)
 
