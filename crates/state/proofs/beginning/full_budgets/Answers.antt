@@ -1,11 +1,8 @@
 use native.Mathlib.Omega.{arith}
 use borrow.Author.Rules.{rules}
 use mathlib.Core.Path.{ap}
-use mathlib.Core.List.{List}
-use Prim.Native.Nat.{ℕ, ◌-◌}
-use lib.ListN.{get_or}
-use Rattle.below.proofs.Listed.{Filled, filled_begun, filled_turn, filled_whole}
-use Rattle.state.specs.declared.BudgetLeft.{BudgetLeft}
+use Prim.Native.Nat.{ℕ}
+use Rattle.below.proofs.Listed.{filled_begun, filled_turn, filled_whole}
 use Rattle.state.proofs.beginning.full_budgets.Goals as goal
 
 pub loop-c-init : goal.loop-c-init

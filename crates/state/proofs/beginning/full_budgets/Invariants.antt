@@ -1,11 +1,8 @@
 -- The loop's invariant: every subsystem passed has its budget.
-use native.Mathlib.Omega.{arith}
-use borrow.Author.Rules.{rules}
-use mathlib.Core.Path.{ap}
 use mathlib.Core.List.{List}
 use Prim.Native.Nat.{ℕ, ◌-◌}
 use lib.ListN.{get_or}
-use Rattle.below.proofs.Listed.{Filled, filled_begun, filled_turn, filled_whole}
+use Rattle.below.proofs.Listed.{Filled}
 use Rattle.state.specs.declared.BudgetLeft.{BudgetLeft}
 use Rattle.state.proofs.beginning.full_budgets.Given as goal
 
