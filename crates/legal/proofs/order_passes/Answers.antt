@@ -1,10 +1,8 @@
 -- Both tests, over the columns that they read.
-use borrow.Author.Tests.{not-true, not-false}
 use Rattle.state.specs.State.{task_at, in_section, is_active, is_started, is_waiting}
 use Rattle.legal.specs.Lent.{order_pass, ordered, below_held, below_row, first_held, apart_from, apart}
 use Rattle.legal.specs.Legal.{active_before}
 use Rattle.plan.specs.Plan.{owner, is_global, level, taken_before}
-use borrow.Author.Rules.{rules}
 use Rattle.legal.proofs.order_passes.Goals as goal
 
 pub returns-then-not-all_ordered : goal.returns-then-not-all_ordered
