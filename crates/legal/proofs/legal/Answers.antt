@@ -1,7 +1,5 @@
 -- The three tests together are the definition, for an accepted plan with its own ceilings.
-use borrow.Author.Tests.{not-true, not-false}
 use Rattle.legal.proofs.CodeLegal.{legal_tested}
-use borrow.Author.Rules.{rules}
 use Rattle.legal.proofs.legal.Goals as goal
 
 pub returns-then-not-subsystems_pass : goal.returns-then-not-subsystems_pass

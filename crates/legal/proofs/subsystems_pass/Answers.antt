@@ -1,10 +1,8 @@
 -- Both tests, over the columns that they read.
-use borrow.Author.Tests.{not-true, not-false}
 use Rattle.state.specs.State.{left_of, refill_of, used_of, task_at, in_section}
 use Rattle.legal.specs.Lent.{subsystems_pass, counts_fit}
 use Rattle.legal.specs.Legal.{counts_legal, absent_subsystem, unused_legal}
 use Rattle.plan.specs.Plan.{period, budget, owner, is_global}
-use borrow.Author.Rules.{rules}
 use Rattle.legal.proofs.subsystems_pass.Goals as goal
 
 pub returns-then-not-all_counts_fit : goal.returns-then-not-all_counts_fit

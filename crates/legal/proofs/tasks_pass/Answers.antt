@@ -1,10 +1,8 @@
 -- Both tests, over the columns that they read.
-use borrow.Author.Tests.{not-true, not-false}
 use Rattle.state.specs.State.{left_of, used_of, task_at, in_section, section_left}
 use Rattle.legal.specs.Lent.{tasks_pass, task_fits, alone_legal}
 use Rattle.legal.specs.Legal.{held_legal, waiting_legal, section_legal}
 use Rattle.plan.specs.Plan.{owner, is_global, length_of, declares}
-use borrow.Author.Rules.{rules}
 use Rattle.legal.proofs.tasks_pass.Goals as goal
 
 pub returns-then-not-all_tasks_fit : goal.returns-then-not-all_tasks_fit

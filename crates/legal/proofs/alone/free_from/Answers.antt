@@ -2,7 +2,6 @@
 use Rattle.legal.specs.Lent.{free_at}
 use Rattle.legal.specs.Legal.{implies}
 use borrow.Author.Tests.{le-leb, lt-leb}
-use borrow.Author.Rules.{rules}
 use Rattle.legal.proofs.alone.free_from.Goals as goal
 
 pub returns-then-i-t : goal.returns-then-i-t

@@ -1,12 +1,7 @@
 use native.Mathlib.Omega.{arith}
-use mathlib.Core.Path.{◌≡◌, sym, ◌∙◌}
-use Prim.Native.Nat.{ℕ, ◌≤◌, ◌<◌, ◌-◌}
+use mathlib.Core.Path.{sym, ◌∙◌}
 use borrow.Author.Count.{below_none, below_more}
-use mathlib.Core.Bool.{true}
-use borrow.Author.Tests.{not-true, not-false}
 use Rattle.below.proofs.Loops.{all_left, all_ended}
-use mathlib.Core.List.{[]}
-use Rattle.plan.specs.Lent.{lent}
 use Rattle.legal.specs.Lent.{held_one, unlike_at}
 use Rattle.legal.specs.Legal.{held_legal}
 use borrow.Author.Rules.{rules}

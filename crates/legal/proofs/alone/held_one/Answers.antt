@@ -2,8 +2,7 @@
 use Rattle.plan.specs.Plan.{is_global, declares, length_of}
 use Rattle.legal.specs.Legal.{implies}
 use Rattle.legal.specs.Lent.{held_one}
-use borrow.Author.Tests.{eq-eqb, ne_eqb, le-ltb, lt-ltb, not-true, not-false}
-use borrow.Author.Rules.{rules}
+use borrow.Author.Tests.{eq-eqb, ne_eqb, le-ltb, lt-ltb}
 use Rattle.legal.proofs.alone.held_one.Goals as goal
 
 pub returns-then-resources-r : goal.returns-then-resources-r

@@ -1,11 +1,7 @@
 use native.Mathlib.Omega.{arith}
-use mathlib.Core.Path.{◌≡◌, sym, ◌∙◌}
-use Prim.Native.Nat.{ℕ, ◌≤◌, ◌<◌, ◌-◌}
+use mathlib.Core.Path.{sym, ◌∙◌}
 use borrow.Author.Count.{below_none, below_more}
-use mathlib.Core.Bool.{true}
-use borrow.Author.Tests.{not-true, not-false}
 use Rattle.below.proofs.Loops.{all_left, all_ended}
-use Rattle.legal.specs.Lent.{free_at}
 use borrow.Author.Rules.{rules}
 use Rattle.legal.proofs.alone.rest_free.Goals as goal
 

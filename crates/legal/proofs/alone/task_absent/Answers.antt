@@ -1,8 +1,7 @@
 -- Each test on the way is one of those that the definition joins.
 use Rattle.state.specs.State.{is_idle}
 use Rattle.legal.specs.Legal.{absent_task}
-use borrow.Author.Tests.{eq-eqb, ne_eqb, not-true, not-false}
-use borrow.Author.Rules.{rules}
+use borrow.Author.Tests.{eq-eqb, ne_eqb}
 use Rattle.legal.proofs.alone.task_absent.Goals as goal
 
 pub returns-then-not-well_written : goal.returns-then-not-well_written

@@ -4,7 +4,6 @@ use Rattle.legal.specs.Legal.{implies}
 use Rattle.legal.specs.Lent.{task_fits}
 use borrow.Author.Tests.{le-leb, lt-leb, le-ltb, lt-ltb}
 use Rattle.legal.proofs.CodeLent.{alone_reads}
-use borrow.Author.Rules.{rules}
 use Rattle.legal.proofs.alone.task_fits.Goals as goal
 
 pub returns-then-k-tasks : goal.returns-then-k-tasks

@@ -1,7 +1,5 @@
 -- Each test on the way is one of those that the definition joins.
 use Rattle.legal.specs.Lent.{alone_legal}
-use borrow.Author.Tests.{not-true, not-false}
-use borrow.Author.Rules.{rules}
 use Rattle.legal.proofs.alone.task_legal.Goals as goal
 
 pub returns-then-not-well_written : goal.returns-then-not-well_written

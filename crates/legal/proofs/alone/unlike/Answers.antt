@@ -1,6 +1,5 @@
 -- The test is the definition's.
 use Rattle.legal.specs.Lent.{unlike_at}
-use borrow.Author.Rules.{rules}
 use Rattle.legal.proofs.alone.unlike.Goals as goal
 
 pub returns : goal.returns

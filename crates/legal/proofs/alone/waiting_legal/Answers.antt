@@ -4,7 +4,6 @@ use Rattle.plan.specs.Plan.{is_global, declares, length_of}
 use Rattle.legal.specs.Legal.{waiting_legal, implies}
 use borrow.Author.Tests.{eq-eqb, ne_eqb, le-ltb, lt-ltb}
 use Rattle.state.proofs.CodeLent.{section_reads}
-use borrow.Author.Rules.{rules}
 use Rattle.legal.proofs.alone.waiting_legal.Goals as goal
 
 pub returns-then-t-ne3 : goal.returns-then-t-ne3

@@ -2,8 +2,7 @@
 use Rattle.state.specs.State.{is_waiting}
 use Rattle.legal.specs.Lent.{free_at}
 use Rattle.legal.specs.Legal.{well_written, implies}
-use borrow.Author.Tests.{eq-eqb, ne_eqb, le-leb, lt-leb, not-true, not-false}
-use borrow.Author.Rules.{rules}
+use borrow.Author.Tests.{eq-eqb, ne_eqb, le-leb, lt-leb}
 use Rattle.legal.proofs.alone.well_written.Goals as goal
 
 pub returns-then-t-gt3 : goal.returns-then-t-gt3

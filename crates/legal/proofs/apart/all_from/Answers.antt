@@ -1,15 +1,8 @@
 use native.Mathlib.Omega.{arith}
 use borrow.Author.Rules.{rules}
-use mathlib.Core.Path.{◌≡◌, sym, ◌∙◌}
-use Prim.Native.Nat.{ℕ, ◌≤◌, ◌<◌, ◌-◌}
+use mathlib.Core.Path.{sym, ◌∙◌}
 use borrow.Author.Count.{below_none, below_more}
-use mathlib.Core.Bool.{true}
-use borrow.Author.Tests.{not-true, not-false}
 use Rattle.below.proofs.Loops.{all_left, all_ended}
-use mathlib.Core.List.{[]}
-use Rattle.plan.specs.Lent.{lent}
-use Rattle.state.specs.Lent.{columns}
-use Rattle.legal.specs.Lent.{apart}
 use Rattle.legal.proofs.apart.all_from.Goals as goal
 
 pub loop-k-init : goal.loop-k-init

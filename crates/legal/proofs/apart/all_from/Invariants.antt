@@ -1,12 +1,7 @@
 -- The loop's invariant: j is apart from every task passed.
-use native.Mathlib.Omega.{arith}
-use borrow.Author.Rules.{rules}
-use mathlib.Core.Path.{◌≡◌, sym, ◌∙◌}
+use mathlib.Core.Path.{◌≡◌}
 use Prim.Native.Nat.{ℕ, ◌≤◌, ◌<◌, ◌-◌}
-use borrow.Author.Count.{below_none, below_more}
 use mathlib.Core.Bool.{true}
-use borrow.Author.Tests.{not-true, not-false}
-use Rattle.below.proofs.Loops.{all_left, all_ended}
 use mathlib.Core.List.{[]}
 use Rattle.plan.specs.Lent.{lent}
 use Rattle.state.specs.Lent.{columns}

@@ -3,9 +3,7 @@ use Rattle.state.specs.State.{in_section}
 use Rattle.plan.specs.Plan.{is_global}
 use mathlib.Core.Path.{sym, ◌∙◌}
 use Rattle.legal.specs.Lent.{apart_from}
-use borrow.Author.Tests.{not-true}
 use Rattle.legal.proofs.CodeLent.{apart_outside, apart_reads}
-use borrow.Author.Rules.{rules}
 use Rattle.legal.proofs.apart.apart_from.Goals as goal
 
 pub returns-then-not-in_section : goal.returns-then-not-in_section
@@ -14,4 +12,4 @@ returns-then-not-in_section c = apart_outside _ _ _ _ _ (sym (rw c.task_at.ensur
 
 pub returns : goal.returns
 unfolding apart_from
-returns c = rw (← apart_reads) c.All-from.ensures
+returns c = rw (← apart_reads) c.all_from.ensures

@@ -3,8 +3,7 @@ use Rattle.plan.specs.Plan.{owner, level}
 use Rattle.state.proofs.CodeLent.{section_reads}
 use Rattle.legal.specs.Legal.{implies}
 use Rattle.legal.specs.Lent.{apart}
-use borrow.Author.Tests.{eq-eqb, ne_eqb, le-ltb, lt-ltb, not-true, not-false}
-use borrow.Author.Rules.{rules}
+use borrow.Author.Tests.{eq-eqb, ne_eqb, le-ltb, lt-ltb}
 use Rattle.legal.proofs.apart.sections_apart.Goals as goal
 
 pub returns-then-not-in_section : goal.returns-then-not-in_section

@@ -1,15 +1,8 @@
 use native.Mathlib.Omega.{arith}
 use borrow.Author.Rules.{rules}
-use mathlib.Core.Path.{◌≡◌, sym, ◌∙◌}
-use Prim.Native.Nat.{ℕ, ◌≤◌, ◌<◌, ◌-◌}
+use mathlib.Core.Path.{sym, ◌∙◌}
 use borrow.Author.Count.{below_none, below_more}
-use mathlib.Core.Bool.{true}
-use borrow.Author.Tests.{not-true, not-false}
 use Rattle.below.proofs.Loops.{all_left, all_ended}
-use mathlib.Core.List.{[]}
-use Rattle.plan.specs.Lent.{lent}
-use Rattle.state.specs.Lent.{columns}
-use Rattle.legal.specs.Lent.{counts_fit}
 use Rattle.legal.proofs.budgets.all_counts_fit.Goals as goal
 
 pub loop-c-init : goal.loop-c-init

@@ -2,7 +2,6 @@
 use Rattle.state.specs.State.{left_of, refill_of, used_of}
 use Rattle.legal.specs.Legal.{absent_subsystem}
 use borrow.Author.Tests.{eq-eqb, ne_eqb}
-use borrow.Author.Rules.{rules}
 use Rattle.legal.proofs.budgets.counts_absent.Goals as goal
 
 pub returns-then-q-ne0 : goal.returns-then-q-ne0

@@ -5,7 +5,6 @@ use Rattle.plan.specs.Plan.{period, budget}
 use Rattle.legal.specs.Legal.{implies, counts_legal, absent_subsystem}
 use Rattle.legal.specs.Lent.{counts_fit}
 use borrow.Author.Tests.{le-leb, lt-leb, le-ltb, lt-ltb}
-use borrow.Author.Rules.{rules}
 use Rattle.legal.proofs.budgets.counts_fit.Goals as goal
 
 pub returns-then-c-subsystems : goal.returns-then-c-subsystems

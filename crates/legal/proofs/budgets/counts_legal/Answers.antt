@@ -3,7 +3,6 @@ use Rattle.state.specs.State.{left_of, refill_of}
 use Rattle.plan.specs.Plan.{period, budget}
 use Rattle.legal.specs.Legal.{counts_legal}
 use borrow.Author.Tests.{le-leb, lt-leb}
-use borrow.Author.Rules.{rules}
 use Rattle.legal.proofs.budgets.counts_legal.Goals as goal
 
 pub returns-then-word_at-q : goal.returns-then-word_at-q

@@ -4,7 +4,6 @@ use Rattle.state.specs.State.{is_active, is_started, is_waiting, task_at}
 use Rattle.plan.specs.Plan.{owner, taken_before}
 use Rattle.legal.specs.Legal.{active_before}
 use borrow.Author.Tests.{eq-eqb, ne_eqb, le-ltb, lt-ltb}
-use borrow.Author.Rules.{rules}
 use Rattle.legal.proofs.order.active_before.Goals as goal
 
 pub returns-then-k-j : goal.returns-then-k-j

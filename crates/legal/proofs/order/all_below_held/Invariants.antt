@@ -1,20 +1,15 @@
 -- The loop's invariant: every held resource passed has the active tasks below its ceiling.
-use native.Mathlib.Omega.{arith}
-use mathlib.Core.Path.{◌≡◌, sym, ◌∙◌}
+use mathlib.Core.Path.{◌≡◌}
 use Prim.Native.Nat.{ℕ, ◌≤◌, ◌<◌, ◌-◌}
-use borrow.Author.Count.{below_none, below_more}
 use mathlib.Core.Bool.{true}
-use borrow.Author.Tests.{not-true, not-false}
-use Rattle.below.proofs.Loops.{all_left, all_ended}
 use mathlib.Core.List.{[]}
 use Rattle.plan.specs.Lent.{lent}
 use Rattle.state.specs.Lent.{columns}
 use Rattle.legal.specs.Lent.{below_held}
-use borrow.Author.Rules.{rules}
 use Rattle.legal.proofs.order.all_below_held.Given as goal
 
 abbrev pub invariant-loop-i : goal.invariant-loop-i
-invariant-loop-i l = (l.i ≤ l.n) × ((l.n : ℕ) → l.n < l.i → below_held (lent 0 l.tasks 0 [] [] l.owners l.kinds []) l.ceilings (columns [] [] [] l.conditions [] [] []) l.k l.t l.n ≡ true)
+invariant-loop-i l = (l.i ≤ l.n) × ((m : ℕ) → m < l.i → below_held (lent 0 l.tasks 0 [] [] l.owners l.kinds []) l.ceilings (columns [] [] [] l.conditions [] [] []) l.k l.t m ≡ true)
 
 abbrev pub decreases-loop-i : goal.decreases-loop-i
 decreases-loop-i l = l.n - l.i

@@ -1,16 +1,11 @@
 -- The loop's invariant: every task passed stands in order.
-use native.Mathlib.Omega.{arith}
-use mathlib.Core.Path.{◌≡◌, sym, ◌∙◌}
+use mathlib.Core.Path.{◌≡◌}
 use Prim.Native.Nat.{ℕ, ◌≤◌, ◌<◌, ◌-◌}
-use borrow.Author.Count.{below_none, below_more}
 use mathlib.Core.Bool.{true}
-use borrow.Author.Tests.{not-true, not-false}
-use Rattle.below.proofs.Loops.{all_left, all_ended}
 use mathlib.Core.List.{[]}
 use Rattle.plan.specs.Lent.{lent}
 use Rattle.state.specs.Lent.{columns}
 use Rattle.legal.specs.Lent.{ordered}
-use borrow.Author.Rules.{rules}
 use Rattle.legal.proofs.order.all_ordered.Given as goal
 
 abbrev pub invariant-loop-k : goal.invariant-loop-k

@@ -3,7 +3,6 @@ use Rattle.plan.specs.Plan.{is_global}
 use Rattle.legal.specs.Lent.{below_held}
 use borrow.Author.Tests.{eq-eqb, ne_eqb}
 use Rattle.legal.proofs.CodeLent.{below_reads}
-use borrow.Author.Rules.{rules}
 use Rattle.legal.proofs.order.below_held.Goals as goal
 
 pub returns-then-byte_at-eq1 : goal.returns-then-byte_at-eq1

@@ -2,8 +2,6 @@
 use Rattle.plan.specs.Plan.{taken_before}
 use Rattle.legal.specs.Legal.{implies}
 use Rattle.legal.specs.Lent.{below_row}
-use borrow.Author.Tests.{not-true, not-false}
-use borrow.Author.Rules.{rules}
 use Rattle.legal.proofs.order.below_row.Goals as goal
 
 pub returns-then-not-active_before : goal.returns-then-not-active_before

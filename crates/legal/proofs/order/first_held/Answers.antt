@@ -3,10 +3,9 @@ use mathlib.Core.Path.{◌∙◌}
 use Rattle.state.specs.State.{is_waiting}
 use Rattle.legal.specs.Legal.{implies}
 use Rattle.legal.specs.Lent.{first_held}
-use borrow.Author.Tests.{eq-eqb, ne_eqb, not-true, not-false}
+use borrow.Author.Tests.{eq-eqb, ne_eqb}
 use Rattle.state.proofs.CodeLent.{section_reads}
 use Rattle.legal.proofs.CodeLent.{none_before}
-use borrow.Author.Rules.{rules}
 use Rattle.legal.proofs.order.first_held.Goals as goal
 
 pub returns-then-t-eq3 : goal.returns-then-t-eq3

@@ -1,8 +1,6 @@
 -- Both conditions of the definition, in its order.
 use Rattle.legal.specs.Lent.{ordered}
-use borrow.Author.Tests.{not-true, not-false}
 use Rattle.legal.proofs.CodeLent.{below_held_reads, first_held_reads}
-use borrow.Author.Rules.{rules}
 use Rattle.legal.proofs.order.task_ordered.Goals as goal
 
 pub returns-then-not-all_below_held : goal.returns-then-not-all_below_held

@@ -1,14 +1,8 @@
 use native.Mathlib.Omega.{arith}
 use borrow.Author.Rules.{rules}
-use mathlib.Core.Path.{◌≡◌, sym, ◌∙◌}
-use mathlib.Core.List.{[]}
-use Prim.Native.Nat.{ℕ, ◌≤◌, ◌<◌, ◌-◌}
+use mathlib.Core.Path.{sym, ◌∙◌}
 use borrow.Author.Count.{below_none, below_more}
-use mathlib.Core.Bool.{false}
 use Rattle.below.proofs.Loops.{any_left, any_ended}
-use Rattle.plan.specs.Lent.{lent}
-use Rattle.state.specs.Lent.{columns}
-use Rattle.legal.specs.Lent.{section_of}
 use Rattle.legal.proofs.sections.any_section.Goals as goal
 
 pub loop-k-init : goal.loop-k-init

@@ -1,12 +1,8 @@
 -- The loop's invariant: no task passed is of the subsystem and in a section.
-use native.Mathlib.Omega.{arith}
-use borrow.Author.Rules.{rules}
-use mathlib.Core.Path.{◌≡◌, sym, ◌∙◌}
+use mathlib.Core.Path.{◌≡◌}
 use mathlib.Core.List.{[]}
 use Prim.Native.Nat.{ℕ, ◌≤◌, ◌<◌, ◌-◌}
-use borrow.Author.Count.{below_none, below_more}
 use mathlib.Core.Bool.{false}
-use Rattle.below.proofs.Loops.{any_left, any_ended}
 use Rattle.plan.specs.Lent.{lent}
 use Rattle.state.specs.Lent.{columns}
 use Rattle.legal.specs.Lent.{section_of}

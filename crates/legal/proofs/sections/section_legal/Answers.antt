@@ -3,8 +3,7 @@ use Rattle.state.proofs.CodeLent.{task_reads, section_reads}
 use Rattle.state.specs.State.{section_left, used_of, left_of}
 use Rattle.plan.specs.Plan.{length_of, owner}
 use Rattle.legal.specs.Legal.{section_legal, implies}
-use borrow.Author.Tests.{not-true, not-false, le-leb, lt-leb}
-use borrow.Author.Rules.{rules}
+use borrow.Author.Tests.{le-leb, lt-leb}
 use Rattle.legal.proofs.sections.section_legal.Goals as goal
 
 pub returns-then-not-in_section : goal.returns-then-not-in_section

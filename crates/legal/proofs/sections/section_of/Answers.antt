@@ -3,7 +3,6 @@ use Rattle.legal.specs.Lent.{section_of}
 use Rattle.plan.specs.Plan.{owner, is_global}
 use Rattle.state.specs.State.{in_section}
 use borrow.Author.Tests.{eq-eqb, ne_eqb}
-use borrow.Author.Rules.{rules}
 use Rattle.legal.proofs.sections.section_of.Goals as goal
 
 pub returns-then-byte_at-c : goal.returns-then-byte_at-c

@@ -1,15 +1,8 @@
 use native.Mathlib.Omega.{arith}
 use borrow.Author.Rules.{rules}
-use mathlib.Core.Path.{◌≡◌, sym, ◌∙◌}
-use mathlib.Core.List.{[]}
-use Prim.Native.Nat.{ℕ, ◌≤◌, ◌<◌, ◌-◌}
+use mathlib.Core.Path.{sym, ◌∙◌}
 use borrow.Author.Count.{below_none, below_more}
-use mathlib.Core.Bool.{true}
-use borrow.Author.Tests.{not-true, not-false}
 use Rattle.below.proofs.Loops.{all_left, all_ended}
-use Rattle.plan.specs.Lent.{lent}
-use Rattle.state.specs.Lent.{columns}
-use Rattle.legal.specs.Legal.{section_legal}
 use Rattle.legal.proofs.sections.sections_legal.Goals as goal
 
 pub loop-k-init : goal.loop-k-init

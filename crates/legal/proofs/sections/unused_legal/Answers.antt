@@ -5,7 +5,6 @@ use Rattle.plan.specs.Plan.{owner, is_global}
 use Rattle.legal.specs.Legal.{unused_legal}
 use Rattle.legal.specs.Lent.{section_of}
 use borrow.Author.Tests.{eq-eqb, ne_eqb}
-use borrow.Author.Rules.{rules}
 use Rattle.legal.proofs.sections.unused_legal.Goals as goal
 
 pub returns-then-word_at-eq0 : goal.returns-then-word_at-eq0

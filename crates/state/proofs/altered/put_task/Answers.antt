@@ -3,7 +3,6 @@ use native.Mathlib.Omega.{arith}
 use Rattle.state.specs.State.{held_place}
 use Rattle.state.specs.Update.{with_task, with_held}
 use Rattle.state.proofs.CodeStores.{with_task_past}
-use borrow.Author.Rules.{rules}
 use Rattle.state.proofs.altered.put_task.Goals as goal
 
 pub bounds-held-first : goal.bounds-held-first

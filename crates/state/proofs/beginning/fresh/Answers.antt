@@ -10,4 +10,4 @@ use Rattle.state.proofs.beginning.fresh.Goals as goal
 pub returns : goal.returns
 unfolding fresh period budget
 returns c =
-    let e : length c.args.t1.periods ≡ 8 = search rules in rw (← c.full_budgets-left.ensures, listed_get_or 0 c.args.t1.periods 8 e)
+    let e : length c.args.p.periods ≡ 8 = search rules in rw (← c.full_budgets-left.ensures, listed_get_or 0 c.args.p.periods 8 e)

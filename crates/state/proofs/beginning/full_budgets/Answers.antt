@@ -1,15 +1,9 @@
 use native.Mathlib.Omega.{arith}
 use borrow.Author.Rules.{rules}
 use mathlib.Core.Path.{ap}
-use mathlib.Core.List.{List}
-use Prim.Native.Nat.{ℕ, ◌-◌}
-use lib.ListN.{get_or}
-use Rattle.below.proofs.Listed.{Filled, filled_begun, filled_turn, filled_whole}
-use Rattle.state.specs.declared.BudgetLeft.{BudgetLeft}
+use Prim.Native.Nat.{ℕ}
+use Rattle.below.proofs.Listed.{filled_begun, filled_turn, filled_whole}
 use Rattle.state.proofs.beginning.full_budgets.Goals as goal
-
-abbrev budget_at : List ℕ → ℕ → BudgetLeft
-budget_at budgets k = record { 0 = get_or budgets k 0 }
 
 pub loop-c-init : goal.loop-c-init
 loop-c-init c = filled_begun (search rules) (omega arith)

@@ -1,6 +1,5 @@
 -- What the task's own list has there.
 use Rattle.state.specs.State.{held_at}
-use borrow.Author.Rules.{rules}
 use Rattle.state.proofs.columns.held_at.Goals as goal
 
 pub returns : goal.returns

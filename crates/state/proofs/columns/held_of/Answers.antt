@@ -1,5 +1,4 @@
 -- What the column has at the place of the i-th held resource.
-use borrow.Author.Rules.{rules}
 use Rattle.state.proofs.columns.held_of.Goals as goal
 
 pub returns : goal.returns

@@ -2,7 +2,6 @@
 use mathlib.Core.Path.{sym}
 use lib.ListN.{get_or-eq_default}
 use Rattle.below.proofs.Entries.{get_or_within}
-use borrow.Author.Rules.{rules}
 use Rattle.state.proofs.columns.row_at.Goals as goal
 
 pub returns-then-i-a : goal.returns-then-i-a

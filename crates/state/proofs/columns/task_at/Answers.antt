@@ -1,7 +1,6 @@
 -- Each part of the task is the entry of its column.
 use Rattle.below.specs.Listed.{listed, listed_onto}
 use Rattle.state.specs.State.{task_at}
-use borrow.Author.Rules.{rules}
 use Rattle.state.proofs.columns.task_at.Goals as goal
 
 pub returns : goal.returns

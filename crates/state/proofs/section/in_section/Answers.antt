@@ -2,7 +2,6 @@
 use Rattle.state.specs.State.{in_section}
 use Rattle.plan.specs.Plan.{is_global}
 use borrow.Author.Tests.{le-leb, lt-leb}
-use borrow.Author.Rules.{rules}
 use Rattle.state.proofs.section.in_section.Goals as goal
 
 pub returns-then-t-lt1 : goal.returns-then-t-lt1

@@ -1,6 +1,5 @@
 -- The place before the count.
 use Rattle.state.specs.State.{last_held}
-use borrow.Author.Rules.{rules}
 use Rattle.state.proofs.section.last_held.Goals as goal
 
 pub returns : goal.returns

@@ -12,5 +12,5 @@ returns-then-c-lt8 c = search rules
 
 pub returns-else-c-lt8 : goal.returns-else-c-lt8
 unfolding left_of
-returns-else-c-lt8 c = let e : length c.args.t1 ≡ 8 = search rules in
-    sym (get_or-eq_default c.args.t1 (record { 0 = 0 }) (omega arith))
+returns-else-c-lt8 c = let e : length c.args.left ≡ 8 = search rules in
+    sym (get_or-eq_default c.args.left (record { 0 = 0 }) (omega arith))

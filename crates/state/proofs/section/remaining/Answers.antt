@@ -2,7 +2,6 @@
 use mathlib.Core.Path.{◌≡◌, ap}
 use native.Mathlib.Omega.{arith}
 use Prim.Native.Nat.{ℕ, ◌-◌}
-use borrow.Author.Rules.{rules}
 use Rattle.state.proofs.section.remaining.Goals as goal
 
 pub returns-then-length-used : goal.returns-then-length-used

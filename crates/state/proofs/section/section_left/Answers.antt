@@ -1,7 +1,6 @@
 -- Length and used count are those of the definition.
 use Rattle.state.specs.State.{section_left, used_of, task_at}
 use Rattle.plan.specs.Plan.{length_of, owner}
-use borrow.Author.Rules.{rules}
 use Rattle.state.proofs.section.section_left.Goals as goal
 
 pub returns : goal.returns
