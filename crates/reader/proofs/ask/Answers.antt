@@ -1,7 +1,5 @@
 -- `reader::ask` meets its contract: what the reading says decides.
 use mathlib.Core.Path.{sym, ap, ◌∙◌}
-use borrow.Author.Tests.{not-true, not-false}
-use borrow.Author.Rules.{rules}
 use mir.Facts.{to_z-of_z}
 use mir.Syntax.{w64}
 use Rattle.reader.specs.declared.Asked.TheVariants.{Margin}

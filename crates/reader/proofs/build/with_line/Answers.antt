@@ -1,7 +1,6 @@
 -- `reader::build::with_line` meets its contract: each arm knows its variant, and so its room.
 use mathlib.Core.Path.{◌≡◌, sym, ap, subst, ◌∙◌}
 use native.Mathlib.Omega.{arith}
-use borrow.Author.Rules.{rules}
 use mathlib.Core.List.{List}
 use Prim.Native.Nat.{ℕ}
 use Rattle.reader.specs.declared.build.Tables.{Tables}

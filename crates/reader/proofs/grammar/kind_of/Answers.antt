@@ -1,7 +1,6 @@
 -- `reader::grammar::kind_of` meets its contract: each arm knows its variant.
 use mathlib.Core.Path.{sym, ap}
 use Rattle.reader.specs.Line.{kind_of}
-use borrow.Author.Rules.{rules}
 use Rattle.reader.proofs.grammar.kind_of.Goals as goal
 
 pub returns-in-Subsystem : goal.returns-in-Subsystem

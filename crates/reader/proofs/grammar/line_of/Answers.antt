@@ -1,7 +1,6 @@
 -- `reader::grammar::line_of` meets its contract: a letter, a tab, and what the letter's fields say.
 use mathlib.Core.Path.{sym, ◌∙◌}
 use native.Mathlib.Omega.{arith}
-use borrow.Author.Rules.{rules}
 use Rattle.reader.proofs.Letters.{line_short, line_long, line_other, line_S, line_T, line_R, line_U}
 use Rattle.reader.proofs.grammar.line_of.Goals as goal
 

@@ -5,7 +5,6 @@ use Prim.Native.Nat.{ℕ, ◌+◌, ◌-◌, ◌<◌}
 use native.Mathlib.Omega.{arith}
 use lib.ListN.{length, take, drop}
 use lib.Seq.{length-take-le}
-use borrow.Author.Rules.{rules}
 use Rattle.text.specs.declared.Number.TheVariants.{Written}
 use Rattle.text.specs.Lines.{fields, until, tab}
 use Rattle.text.specs.Numbers.{number, of_one, of_two}

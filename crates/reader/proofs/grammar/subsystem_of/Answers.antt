@@ -1,6 +1,5 @@
 -- `reader::grammar::subsystem_of` meets its contract: it is what its pair of numbers says.
 use mathlib.Core.Path.{sym, ap, ◌∙◌}
-use borrow.Author.Rules.{rules}
 use Rattle.reader.specs.declared.Line.TheVariants.{Subsystem}
 use Rattle.reader.specs.Pair.{of_pair}
 use Rattle.reader.proofs.grammar.subsystem_of.Goals as goal

@@ -2,7 +2,6 @@
 use mathlib.Core.Path.{sym, ◌∙◌}
 use Rattle.reader.specs.declared.Line.TheVariants.{Task}
 use Rattle.reader.proofs.Fields.{last_written, last_not}
-use borrow.Author.Rules.{rules}
 use Rattle.reader.proofs.grammar.task_of.Goals as goal
 
 pub returns-in_default : goal.returns-in_default

@@ -1,6 +1,5 @@
 -- `reader::judge::judge_rows` meets its contract: each arm knows its variant, and what its function ensures.
 use mathlib.Core.Path.{refl, sym, ap, ◌∙◌}
-use borrow.Author.Rules.{rules}
 use Rattle.reader.specs.Conditions.{too_many_rows, no_such_row, out_of_range, twice, two_subsystems, above_budget}
 use Rattle.reader.specs.Reading.{first_of}
 use Rattle.reader.specs.Judged.{judged_rows}

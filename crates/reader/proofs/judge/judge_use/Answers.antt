@@ -3,7 +3,6 @@ use mathlib.Core.Path.{◌≡◌, refl, sym, ◌∙◌}
 use mathlib.Core.Bool.{false}
 use mathlib.Core.List.{List, []}
 use Prim.Native.Nat.{ℕ, ◌<◌}
-use borrow.Author.Rules.{rules}
 use Rattle.plan.specs.Lent.{lent}
 use Rattle.reader.specs.declared.Line.TheVariants.{Uses}
 use Rattle.reader.specs.Conditions.{no_such_row}

@@ -1,17 +1,14 @@
 use mathlib.Core.Path.{◌≡◌, refl, sym, ap, ap₂, subst, ◌∙◌}
 use mathlib.Core.Bool.{Bool, true}
-use Prim.Native.Nat.{ℕ, ◌+◌, ◌-◌, ◌≤◌}
+use Prim.Native.Nat.{ℕ}
 use native.Mathlib.Omega.{arith}
-use lib.ListN.{length, drop}
 use borrow.Author.Rules.{rules}
-use borrow.Author.Tests.{not-true, not-false}
 use Rattle.plan.specs.declared.Plan.{Plan}
 use Rattle.reader.specs.declared.Verdict.{Verdict}
 use Rattle.reader.specs.declared.Line.{Line}
 use Rattle.text.specs.Lines.{lines}
 use Rattle.reader.specs.Numbers.{is_accepted}
-use Rattle.reader.specs.Reading.{empty_plan, judged, refused, read_from}
-use Rattle.reader.specs.Parts.{places, plan_of}
+use Rattle.reader.specs.Reading.{judged, refused, read_from}
 use Rattle.reader.specs.Room.{Counts, Room}
 use Rattle.reader.proofs.Room.{accepted_is, room, counts_empty, counts_kept}
 use Rattle.reader.proofs.Onward.{read_unended, read_refused, read_onward, read_ended}
@@ -44,15 +41,14 @@ pub with_line-t-requires : goal.with_line-t-requires
 with_line-t-requires c = (c.loop-at.invariant.3, has_room _ _ _ _ c.loop-at.invariant.1 (as_judged c.judge-v.ensures c.is_accepted.ensures c.if-not-is_accepted.false))
 
 pub loop-at-preserved : goal.loop-at-preserved
-loop-at-preserved c =
-    (
-      c.loop-at.invariant.0
-          ∙ read_onward _ _ _ c.find-end.ensures _ _ _ c.if-text-end.false c.line_of-l.ensures (as_judged c.judge-v.ensures c.is_accepted.ensures c.if-not-is_accepted.false)
-          ∙ ap₂ (read_from _ _) (sym c.kind_of-last.ensures) (sym c.with_line-t.ensures),
-      subst Counts (sym c.with_line-t.ensures) (counts_kept _ _ c.loop-at.invariant.1 (has_room _ _ _ _ c.loop-at.invariant.1 (as_judged c.judge-v.ensures c.is_accepted.ensures c.if-not-is_accepted.false))),
-      omega (arith, c.loop-at.invariant.2, c.find-end.ensures),
-      c.with_line-t.auto.lengths ∙ c.loop-at.invariant.3,
-    )
+loop-at-preserved c = (
+  c.loop-at.invariant.0
+      ∙ read_onward _ _ _ c.find-end.ensures _ _ _ c.if-text-end.false c.line_of-l.ensures (as_judged c.judge-v.ensures c.is_accepted.ensures c.if-not-is_accepted.false)
+      ∙ ap₂ (read_from _ _) (sym c.kind_of-last.ensures) (sym c.with_line-t.ensures),
+  subst Counts (sym c.with_line-t.ensures) (counts_kept _ _ c.loop-at.invariant.1 (has_room _ _ _ _ c.loop-at.invariant.1 (as_judged c.judge-v.ensures c.is_accepted.ensures c.if-not-is_accepted.false))),
+  omega (arith, c.loop-at.invariant.2, c.find-end.ensures),
+  c.with_line-t.auto.lengths ∙ c.loop-at.invariant.3,
+)
 
 pub returns : goal.returns
 returns c = rw c.plan_of-plan.ensures (sym (c.loop-at.invariant.0 ∙ read_ended _ _ _ _ _ c.loop-at-test.false))
