@@ -1,7 +1,5 @@
 -- `reader::ask` meets its contract: what the reading says decides.
 use mathlib.Core.Path.{sym, ap, ◌∙◌}
-use borrow.Author.Tests.{not-true, not-false}
-use borrow.Author.Rules.{rules}
 use mir.Facts.{to_z-of_z}
 use mir.Syntax.{w64}
 use Rattle.reader.specs.declared.Asked.TheVariants.{Margin}
@@ -17,7 +15,7 @@ returns-then-not-has_margins c = sym (asked_refused _ _ (sym c.has_margins.ensur
 pub returns-then-row-p : goal.returns-then-row-p
 unfolding asked has_margins
 returns-then-row-p c =
-    ap Margin (to_z-of_z {w = w64} {z = c.margin.result} (record { sfits = c.margin.type-inv }) ∙ c.margin.ensures)
+    ap Margin (to_z-of_z {w = w64} {z = c.margin.result} (record { sfits = c.margin.type_inv }) ∙ c.margin.ensures)
     ∙ sym (asked_margin _ _ (sym c.has_margins.ensures ∙ c.if-not-has_margins.false) c.if-row-p.true)
     ∙ ap (λ (r : Reading). asked_of r c.args.row) c.read-r.ensures
 

@@ -1,6 +1,5 @@
 -- `reader::judge_whole` meets its contract: 29, then 30.
 use mathlib.Core.Path.{sym, ◌∙◌}
-use borrow.Author.Rules.{rules}
 use Rattle.reader.proofs.Answers.{whole_none, whole_negative, whole_fine}
 use Rattle.reader.proofs.judge_whole.Goals as goal
 

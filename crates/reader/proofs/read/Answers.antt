@@ -1,6 +1,5 @@
 -- `reader::read` meets its contract: 20, then the lines, then 29 and 30.
 use mathlib.Core.Path.{sym, ◌∙◌}
-use borrow.Author.Rules.{rules}
 use Rattle.reader.proofs.Answers.{reading_long, reading_bad, reading_whole}
 use Rattle.reader.proofs.read.Goals as goal
 

@@ -1,6 +1,5 @@
 -- `reader::build::empty_plan` meets its contract: no rows and no lengths.
 use mathlib.Core.Path.{◌∙◌}
-use borrow.Author.Rules.{rules}
 use Rattle.reader.proofs.build.empty_plan.Goals as goal
 
 pub returns : goal.returns

@@ -1,13 +1,7 @@
 -- `reader::build::open` meets its contract. The loop's invariant: the tasks below `t` are done, and no place is lost. The measure is what is left.
-use mathlib.Core.Path.{◌≡◌, refl, sym, ap, ◌∙◌}
-use mathlib.Core.List.{List}
-use Prim.Native.Nat.{ℕ, ◌+◌, ◌*◌, ◌-◌, ◌≤◌}
-use native.Mathlib.Numerals.{add-one}
-use native.Mathlib.Omega.{arith}
-use lib.ListN.{length, set, length-set}
-use borrow.Author.Rules.{rules}
-use Rattle.plan.specs.Limits.{undeclared}
-use Rattle.plan.specs.Plan.{place}
+use mathlib.Core.Path.{◌≡◌}
+use Prim.Native.Nat.{◌-◌, ◌≤◌}
+use lib.ListN.{length}
 use Rattle.reader.specs.Reading.{opened}
 use Rattle.reader.specs.Parts.{places}
 use Rattle.reader.proofs.build.open.Given as goal

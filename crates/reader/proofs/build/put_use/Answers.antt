@@ -1,7 +1,6 @@
 -- `reader::build::put_use` meets its contract: one store at the pair's place.
 use mathlib.Core.Path.{refl}
 use lib.ListN.{length-set}
-use borrow.Author.Rules.{rules}
 use Rattle.plan.specs.Plan.{place}
 use Rattle.reader.proofs.build.put_use.Goals as goal
 

@@ -1,6 +1,5 @@
 -- `reader::build::with_subsystem` meets its contract: its record is that of the definition.
 use mathlib.Core.Path.{refl}
-use borrow.Author.Rules.{rules}
 use Rattle.reader.specs.Reading.{with_subsystem}
 use Rattle.reader.proofs.build.with_subsystem.Goals as goal
 

@@ -1,6 +1,5 @@
 -- `reader::build::with_task` meets its contract: its record is that of the definition.
 use mathlib.Core.Path.{refl}
-use borrow.Author.Rules.{rules}
 use Rattle.reader.specs.Reading.{with_task}
 use Rattle.reader.proofs.build.with_task.Goals as goal
 

@@ -1,6 +1,6 @@
 -- `reader::grammar::line_of` meets its contract: a letter, a tab, and what the letter's fields say.
 use mathlib.Core.Path.{sym, ◌∙◌}
-use borrow.Author.Rules.{rules}
+use native.Mathlib.Omega.{arith}
 use Rattle.reader.proofs.Letters.{line_short, line_long, line_other, line_S, line_T, line_R, line_U}
 use Rattle.reader.proofs.grammar.line_of.Goals as goal
 
@@ -11,16 +11,16 @@ pub returns-then-s-ne-TAB : goal.returns-then-s-ne-TAB
 returns-then-s-ne-TAB c = sym (line_long _ c.if-s-lt2.false c.if-s-ne-TAB.true)
 
 pub returns-in-83 : goal.returns-in-83
-returns-in-83 c = c.subsystem_of.ensures ∙ sym (line_S _ c.if-s-lt2.false c.if-s-ne-TAB.false c.in_default.keys1)
+returns-in-83 c = c.subsystem_of.ensures ∙ sym (line_S _ c.if-s-lt2.false c.if-s-ne-TAB.false c.in-83.is)
 
 pub returns-in-84 : goal.returns-in-84
-returns-in-84 c = c.task_of.ensures ∙ sym (line_T _ c.if-s-lt2.false c.if-s-ne-TAB.false c.in_default.keys2)
+returns-in-84 c = c.task_of.ensures ∙ sym (line_T _ c.if-s-lt2.false c.if-s-ne-TAB.false c.in-84.is)
 
 pub returns-in-82 : goal.returns-in-82
-returns-in-82 c = c.resource_of.ensures ∙ sym (line_R _ c.if-s-lt2.false c.if-s-ne-TAB.false c.in_default.keys3)
+returns-in-82 c = c.resource_of.ensures ∙ sym (line_R _ c.if-s-lt2.false c.if-s-ne-TAB.false c.in-82.is)
 
 pub returns-in-85 : goal.returns-in-85
-returns-in-85 c = c.uses_of.ensures ∙ sym (line_U _ c.if-s-lt2.false c.if-s-ne-TAB.false c.in_default.keys4)
+returns-in-85 c = c.uses_of.ensures ∙ sym (line_U _ c.if-s-lt2.false c.if-s-ne-TAB.false c.in-85.is)
 
 pub returns-in_default : goal.returns-in_default
-returns-in_default c = sym (line_other _ c.in_default.rest.0.0.0.1 c.in_default.rest.0.0.1 c.in_default.rest.0.1 c.in_default.rest.1)
+returns-in_default c = sym (line_other _ (omega arith) (omega arith) (omega arith) (omega arith))

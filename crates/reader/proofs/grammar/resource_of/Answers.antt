@@ -1,6 +1,5 @@
 -- `reader::grammar::resource_of` meets its contract: one letter, L or G.
 use mathlib.Core.Path.{sym}
-use borrow.Author.Rules.{rules}
 use Rattle.reader.proofs.Letters.{kind_long, kind_local, kind_global, kind_other}
 use Rattle.reader.proofs.grammar.resource_of.Goals as goal
 

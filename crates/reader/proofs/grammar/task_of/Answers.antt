@@ -2,12 +2,11 @@
 use mathlib.Core.Path.{sym, ◌∙◌}
 use Rattle.reader.specs.declared.Line.TheVariants.{Task}
 use Rattle.reader.proofs.Fields.{last_written, last_not}
-use borrow.Author.Rules.{rules}
 use Rattle.reader.proofs.grammar.task_of.Goals as goal
 
 pub returns-in_default : goal.returns-in_default
-returns-in_default c = sym (last_not Task _ (sym c.number_of_lem.ensures ∙ c.enum_told-1.given.1))
+returns-in_default c = sym (last_not Task _ (sym c.number_of.ensures ∙ c.in_default.is))
 
 pub returns : goal.returns
 returns c =
-    sym (last_written Task _ (sym c.number_of_lem.ensures ∙ c.subsystem-1.given.1))
+    sym (last_written Task _ (sym c.number_of.ensures ∙ c.in-Written.is))

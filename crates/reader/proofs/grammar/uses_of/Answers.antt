@@ -1,12 +1,13 @@
 -- `reader::grammar::uses_of` meets its contract: a first number, and the pair behind it.
 use mathlib.Core.Path.{◌≡◌, refl, sym, ap, ◌∙◌}
-use Prim.Native.Nat.{◌+◌, ◌-◌}
+use mathlib.Core.List.{List}
+use Prim.Native.Nat.{ℕ, ◌+◌, ◌-◌, ◌<◌}
 use native.Mathlib.Omega.{arith}
 use lib.ListN.{length, take, drop}
 use lib.Seq.{length-take-le}
-use borrow.Author.Rules.{rules}
-use Rattle.text.specs.Lines.{fields}
-use Rattle.text.specs.Numbers.{of_two, of_three}
+use Rattle.text.specs.declared.Number.TheVariants.{Written}
+use Rattle.text.specs.Lines.{fields, until, tab}
+use Rattle.text.specs.Numbers.{number, of_two, of_three}
 use Rattle.reader.specs.declared.Line.TheVariants.{Uses, Malformed}
 use Rattle.reader.specs.Line.{of_numbers}
 use Rattle.reader.specs.Pair.{of_pair}
@@ -14,10 +15,9 @@ use Rattle.reader.proofs.Fields.{too_few, three_two, none_found, first_not, firs
 use Rattle.reader.proofs.grammar.uses_of.Goals as goal
 
 -- behind the task two numbers are wanted
-front : (c : goal.In-Written)
-    → of_numbers (of_three Malformed Uses) (fields c.args.s.now)
-    ≡ of_numbers (of_two Malformed (Uses c.task-1.given.0.0)) (fields (take (length c.args.s.now - (c.find-m.result + 1)) (drop (c.find-m.result + 1) c.args.s.now)))
-front c = first_next _ _ c.find-m.ensures (omega arith) _ _ (sym c.number_of_lem.ensures ∙ c.task-1.given.1) (three_two Uses _)
+front : (s : List ℕ) {m n : ℕ} → m ≡ 0 + until tab s → m < length s → number (take m s) ≡ Written n
+    → of_numbers (of_three Malformed Uses) (fields s) ≡ of_numbers (of_two Malformed (Uses n)) (fields (take (length s - (m + 1)) (drop (m + 1) s)))
+front s {m} {n} e h w = first_next s m e h _ _ w (three_two Uses n)
 
 pub returns-then-s-m : goal.returns-then-s-m
 unfolding of_three
@@ -27,10 +27,10 @@ pub slice_bounds-number_of-end : goal.slice_bounds-number_of-end
 slice_bounds-number_of-end c = sym (length-take-le _ _ (omega arith))
 
 pub returns-in_default : goal.returns-in_default
-returns-in_default c = sym (first_not _ _ c.find-m.ensures (omega arith) _ (sym c.number_of_lem.ensures ∙ c.enum_told-1.given.1))
+returns-in_default c = sym (first_not _ _ c.find-m.ensures (omega arith) _ (sym c.number_of.ensures ∙ c.in_default.is))
 
 pub returns-in_default-pair_of : goal.returns-in_default-pair_of
-returns-in_default-pair_of c = ap (of_pair (Uses _)) (sym c.enum_told-in_default-pair_of-1.given.1) ∙ c.pair_of.ensures (Uses _) ∙ sym (front c)
+returns-in_default-pair_of c = ap (of_pair (Uses _)) (sym c.in_default-pair_of.is) ∙ c.pair_of.ensures (Uses _) ∙ sym (front _ c.find-m.ensures c.if-s-m.false (sym c.number_of.ensures ∙ c.in-Written.is))
 
 pub returns : goal.returns
-returns c = ap (of_pair (Uses _)) (sym c.resource-1.given.1) ∙ c.pair_of.ensures (Uses _) ∙ sym (front c)
+returns c = ap (of_pair (Uses _)) (sym c.in-Written-pair_of.is) ∙ c.pair_of.ensures (Uses _) ∙ sym (front _ c.find-m.ensures c.if-s-m.false (sym c.number_of.ensures ∙ c.in-Written.is))

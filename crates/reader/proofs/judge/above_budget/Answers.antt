@@ -1,5 +1,4 @@
 -- `reader::judge::above_budget` meets its contract: the budget of the task's subsystem.
-use borrow.Author.Rules.{rules}
 use Rattle.plan.specs.Plan.{budget, owner}
 use Rattle.reader.specs.Conditions.{above_budget}
 use Rattle.reader.proofs.judge.above_budget.Goals as goal

@@ -1,7 +1,6 @@
 -- `reader::judge::apart_at` meets its contract: the two tests of a task.
 use mathlib.Core.Path.{sym, ◌∙◌}
 use borrow.Author.Tests.{eq-eqb, ne_eqb}
-use borrow.Author.Rules.{rules}
 use Rattle.plan.specs.Plan.{place}
 use Rattle.reader.specs.Judged.{apart_at}
 use Rattle.reader.proofs.judge.apart_at.Goals as goal

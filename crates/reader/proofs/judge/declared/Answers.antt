@@ -3,7 +3,6 @@ use mathlib.Core.Path.{ap}
 use mathlib.Core.Bool.{not}
 use Prim.Native.Nat.{ℕ}
 use lib.Dec.{eqb}
-use borrow.Author.Rules.{rules}
 use Rattle.plan.specs.Limits.{undeclared}
 use Rattle.plan.specs.Plan.{declares, length_of, place}
 use Rattle.reader.proofs.judge.declared.Goals as goal

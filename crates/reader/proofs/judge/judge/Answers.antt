@@ -1,7 +1,6 @@
 -- `reader::judge::judge` meets its contract: 21, then 22, then the rest of the table.
 use mathlib.Core.Path.{sym, ◌∙◌}
 use borrow.Author.Tests.{eq-eqb, ne_eqb, lt-ltb, le-ltb}
-use borrow.Author.Rules.{rules}
 use Rattle.reader.specs.Conditions.{not_grammar, kind_order}
 use Rattle.reader.proofs.Judged.{judged_grammar, judged_order, judged_rows_lem}
 use Rattle.reader.proofs.judge.judge.Goals as goal

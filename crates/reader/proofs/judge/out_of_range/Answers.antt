@@ -1,7 +1,6 @@
 -- `reader::judge::out_of_range` meets its contract: a global length is tested on both sides, a local one is 0.
 use mathlib.Core.Path.{sym, ◌∙◌}
 use borrow.Author.Tests.{eq-eqb, ne_eqb, le-leb, lt-leb}
-use borrow.Author.Rules.{rules}
 use Rattle.plan.specs.Plan.{is_global}
 use Rattle.reader.specs.Conditions.{out_of_range}
 use Rattle.reader.proofs.judge.out_of_range.Goals as goal

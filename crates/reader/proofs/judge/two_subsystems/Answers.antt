@@ -1,7 +1,6 @@
 -- `reader::judge::two_subsystems` meets its contract: a global resource never, a local one where a task is apart.
 use mathlib.Core.Path.{sym, ◌∙◌}
 use borrow.Author.Tests.{eq-eqb, ne_eqb}
-use borrow.Author.Rules.{rules}
 use Rattle.plan.specs.Plan.{is_global, owner}
 use Rattle.reader.proofs.Judged.{never_two, two_apart}
 use Rattle.reader.proofs.judge.two_subsystems.Goals as goal

@@ -1,20 +1,13 @@
 -- `reader::lines::read_lines` meets its contract. The loop's invariant: reading on from `at` gives what reading the whole text gives, the plan
 -- has no more rows than may be, and there are no more lines than
 -- bytes, and no length is lost. The measure is what is left.
-use mathlib.Core.Path.{◌≡◌, refl, sym, ap, ap₂, subst, ◌∙◌}
-use mathlib.Core.Bool.{true}
+use mathlib.Core.Path.{◌≡◌}
 use Prim.Native.Nat.{◌+◌, ◌-◌, ◌≤◌}
-use native.Mathlib.Omega.{arith}
 use lib.ListN.{length, drop}
-use borrow.Author.Rules.{rules}
-use borrow.Author.Tests.{not-true, not-false}
 use Rattle.text.specs.Lines.{lines}
-use Rattle.reader.specs.Numbers.{is_accepted}
-use Rattle.reader.specs.Reading.{empty_plan, judged, refused, read_from}
+use Rattle.reader.specs.Reading.{empty_plan, read_from}
 use Rattle.reader.specs.Parts.{places, plan_of}
-use Rattle.reader.specs.Room.{Counts, Room}
-use Rattle.reader.proofs.Room.{accepted_is, room, counts_empty, counts_kept}
-use Rattle.reader.proofs.Onward.{read_unended, read_refused, read_onward, read_ended}
+use Rattle.reader.specs.Room.{Counts}
 use Rattle.reader.proofs.lines.read_lines.Given as goal
 
 abbrev pub invariant-loop-at : goal.invariant-loop-at

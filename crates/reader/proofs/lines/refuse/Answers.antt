@@ -1,5 +1,4 @@
 -- `reader::lines::refuse` meets its contract: the plan beside the verdict is the empty one.
-use borrow.Author.Rules.{rules}
 use Rattle.reader.specs.Reading.{refused}
 use Rattle.reader.proofs.lines.refuse.Goals as goal
 

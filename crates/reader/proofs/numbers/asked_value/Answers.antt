@@ -8,10 +8,10 @@ use borrow.Author.Rules.{rules}
 use Rattle.reader.proofs.numbers.asked_value.Goals as goal
 
 pub returns-in-Margin : goal.returns-in-Margin
-returns-in-Margin c = to_z-of_z w64 _ (search rules) ∙ ap asked_value (sym c.a-1.given.1)
+returns-in-Margin c = to_z-of_z w64 _ (search rules) ∙ ap asked_value (sym c.in-Margin.is)
 
 pub returns-in-NoRow : goal.returns-in-NoRow
-returns-in-NoRow c = ap asked_value (sym c.enum_told-1.given.1)
+returns-in-NoRow c = ap asked_value (sym c.in-NoRow.is)
 
 pub returns-in-Refused : goal.returns-in-Refused
-returns-in-Refused c = to_z_pos w64 _ (omega arith) ∙ ap pos c.beside.ensures ∙ ap asked_value (sym c.a-in-Refused-1.given.1)
+returns-in-Refused c = to_z_pos w64 _ (omega arith) ∙ ap pos c.beside.ensures ∙ ap asked_value (sym c.in-Refused.is)

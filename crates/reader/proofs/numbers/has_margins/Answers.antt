@@ -1,7 +1,6 @@
 -- `reader::numbers::has_margins` meets its contract: the number is 0 or 30.
 use mathlib.Core.Path.{sym, ◌∙◌}
 use borrow.Author.Tests.{eq-eqb, ne_eqb}
-use borrow.Author.Rules.{rules}
 use Rattle.reader.proofs.numbers.has_margins.Goals as goal
 
 pub returns-then-n-eq0 : goal.returns-then-n-eq0

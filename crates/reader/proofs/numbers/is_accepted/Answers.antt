@@ -2,7 +2,6 @@
 use mathlib.Core.Path.{ap}
 use Prim.Native.Nat.{ℕ}
 use lib.Dec.{eqb}
-use borrow.Author.Rules.{rules}
 use Rattle.reader.specs.Numbers.{is_accepted}
 use Rattle.reader.proofs.numbers.is_accepted.Goals as goal
 
