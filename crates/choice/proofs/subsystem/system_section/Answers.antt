@@ -1,9 +1,5 @@
 use mathlib.Core.Path.{◌≡◌, ◌∙◌}
-use mathlib.Core.Logic.{⊎_elim}
-use Prim.Native.Nat.{◌≤◌, ◌-◌}
 use native.Mathlib.Omega.{arith}
-use borrow.Author.Rules.{rules}
-use Rattle.choice.specs.Columns.{section_ceiling, Found}
 use Rattle.choice.proofs.Found.{found_none, found_taken, found_kept}
 use Rattle.choice.proofs.subsystem.system_section.Goals as goal
 use Rattle.choice.proofs.subsystem.system_section.Goals.{then-l-ceiling, else-l-ceiling}

@@ -1,12 +1,8 @@
 use mathlib.Core.Path.{◌≡◌, sym, ◌∙◌}
-use mathlib.Core.Logic.{⊎_elim}
-use mathlib.Core.Bool.{◌&&◌, and-true}
-use Prim.Native.Nat.{ℕ, ◌≤◌, ◌-◌}
+use mathlib.Core.Bool.{and-true}
 use native.Mathlib.Omega.{arith}
 use lib.Dec.{ltb}
 use lib.ListN.{get_or}
-use borrow.Author.Rules.{rules}
-use Rattle.below.specs.Below.{all}
 use Rattle.below.proofs.Search.{all_none}
 use Rattle.below.proofs.Least.{below_taken, below_kept, all_after}
 use Rattle.choice.specs.Columns.{local_at, below_held}
