@@ -24,7 +24,7 @@ pub choice_lent : (p : Plan) (s : State) (rows : Rows) (lengths : List ℕ) → 
     → choice.Lent p s rows.subsystems rows.tasks rows.owners rows.kinds rows.ceilings s.left s.conditions s.counts s.held
 unfolding rows_of
 choice_lent p s rows lengths L =
-    let e = L.rows_of_lem.of_rows in
+    let e = L.rows_of_plan.of_rows in
     record {
       accepted = L.accepted;
       legal = L.legal;

@@ -1,6 +1,5 @@
 -- `choice::choose` meets its contract: what its parts found is, of a legal state that is lent, the choice. No accepted plan has more rows than the first tests let pass.
 use native.Mathlib.Omega.{arith}
-use borrow.Author.Rules.{rules}
 use Rattle.below.proofs.Least.{least_le}
 use Rattle.choice.specs.Columns.{section_ceiling}
 use Rattle.choice.proofs.Computed.{computed_is}

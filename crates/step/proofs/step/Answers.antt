@@ -7,19 +7,6 @@ use Rattle.step.proofs.Stepping.{step_31, step_32, step_on, step_lent}
 use borrow.Author.Rules.{rules}
 use Rattle.step.proofs.step.Goals as goal
 
--- the lengths of the arrays
-sized : (c : goal.Start) → Sized c.args.s
-sized c =
-    record {
-      left = search (rules, unmapped);
-      refill = search rules;
-      used = search rules;
-      conditions = search rules;
-      waits = search rules;
-      counts = search rules;
-      held = search rules;
-    }
-
 pub returns-then-not-accepted : goal.returns-then-not-accepted
 returns-then-not-accepted c = c.unread.ensures ∙ step_31 _ _ _ _ _ (sym c.accepted.ensures ∙ c.if-not-accepted.true)
 
@@ -33,4 +20,14 @@ returns c =
     let a = sym c.accepted.ensures ∙ c.if-not-accepted.false in
     let e = c.ceilings-ceilings.ensures in
     let l = sym (c.legal.ensures a e) ∙ c.if-not-legal.false in
-    c.stepped.ensures _ (step_lent _ _ _ a l (c.rows_with.ensures e) (sized c)) ∙ step_on _ _ _ _ _ a l
+    let sized : Sized c.args.s =
+        record {
+          left = search (rules, unmapped);
+          refill = search rules;
+          used = search rules;
+          conditions = search rules;
+          waits = search rules;
+          counts = search rules;
+          held = search rules;
+        } in
+    c.stepped.ensures _ (step_lent _ _ _ a l (c.rows_with.ensures e) sized) ∙ step_on _ _ _ _ _ a l

@@ -1,7 +1,6 @@
 -- `choice::places::at` meets its contract: what is read past the end does not matter inside.
 use mathlib.Core.Path.{sym}
 use lib.ListN.{get_or-eq_default}
-use borrow.Author.Rules.{rules}
 use Rattle.below.proofs.Entries.{get_or_within}
 use Rattle.choice.proofs.places.at.Goals as goal
 

@@ -1,7 +1,6 @@
 -- `choice::places::held_at` meets its contract: the first four places of a task are its own.
 use mathlib.Core.Path.{sym, ◌∙◌}
 use native.Mathlib.Omega.{arith}
-use borrow.Author.Rules.{rules}
 use Rattle.choice.proofs.Held.{held_there, held_past}
 use Rattle.choice.proofs.places.held_at.Goals as goal
 

@@ -1,7 +1,6 @@
 -- `choice::places::in_section` meets its contract, by the number of resources held.
 use mathlib.Core.Path.{sym, ap, ◌∙◌}
 use native.Mathlib.Omega.{arith}
-use borrow.Author.Rules.{rules}
 use Rattle.plan.specs.Plan.{is_global}
 use Rattle.state.specs.State.{task_at}
 use Rattle.choice.proofs.Held.{section_none, section_some}

@@ -2,7 +2,6 @@
 use mathlib.Core.Path.{ap}
 use Prim.Native.Nat.{ℕ}
 use lib.Dec.{eqb}
-use borrow.Author.Rules.{rules}
 use Rattle.plan.specs.Plan.{is_global}
 use Rattle.choice.proofs.places.is_global.Goals as goal
 

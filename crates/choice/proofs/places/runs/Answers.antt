@@ -1,7 +1,6 @@
 -- `choice::places::runs` meets its contract.
 use mathlib.Core.Path.{sym}
 use native.Mathlib.Omega.{arith}
-use borrow.Author.Rules.{rules}
 use Rattle.state.specs.State.{task_at}
 use Rattle.choice.proofs.Held.{runs_waiting, runs_other}
 use Rattle.choice.proofs.places.runs.Goals as goal

@@ -1,13 +1,7 @@
-use mathlib.Core.Path.{◌≡◌}
-use mathlib.Core.Bool.{false}
-use mathlib.Core.List.{[]}
-use Prim.Native.Nat.{ℕ, ◌≤◌, ◌<◌, ◌-◌}
 use native.Mathlib.Omega.{arith}
 use borrow.Author.Count.{below_none, below_more}
-use borrow.Author.Rules.{rules}
 use Rattle.below.proofs.Loops.{first_left, first_ended}
-use Rattle.state.specs.State.{has_budget, left_of}
-use Rattle.choice.specs.Columns.{state_of}
+use Rattle.state.specs.State.{left_of}
 use Rattle.choice.proofs.Held.{budget_left, budget_gone}
 use Rattle.choice.proofs.subsystem.first_with_budget.Goals as goal
 

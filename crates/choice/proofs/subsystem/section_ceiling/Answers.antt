@@ -1,6 +1,5 @@
 -- `choice::subsystem::section_ceiling` meets its contract, by whether the task is in a section.
 use mathlib.Core.Path.{sym, ◌∙◌}
-use borrow.Author.Rules.{rules}
 use Rattle.choice.proofs.Columns.{ceiling_in, ceiling_out}
 use Rattle.choice.proofs.subsystem.section_ceiling.Goals as goal
 

@@ -1,7 +1,6 @@
 -- `choice::subsystem::subsystem_of` meets its contract, by whether a subsystem below the ceiling has budget left.
 use mathlib.Core.Path.{sym, ◌∙◌}
 use native.Mathlib.Omega.{arith}
-use borrow.Author.Rules.{rules}
 use Rattle.choice.proofs.Columns.{owner_none, owner_there, chosen_budget, chosen_holder}
 use Rattle.choice.proofs.subsystem.subsystem_of.Goals as goal
 

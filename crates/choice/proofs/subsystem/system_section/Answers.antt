@@ -1,11 +1,8 @@
 use mathlib.Core.Path.{◌≡◌, ◌∙◌}
-use mathlib.Core.Logic.{⊎_elim}
-use Prim.Native.Nat.{◌≤◌, ◌-◌}
 use native.Mathlib.Omega.{arith}
-use borrow.Author.Rules.{rules}
-use Rattle.choice.specs.Columns.{section_ceiling, Found}
 use Rattle.choice.proofs.Found.{found_none, found_taken, found_kept}
 use Rattle.choice.proofs.subsystem.system_section.Goals as goal
+use Rattle.choice.proofs.subsystem.system_section.Goals.{then-l-ceiling, else-l-ceiling}
 
 pub loop-k-init : goal.loop-k-init
 loop-k-init c = (omega arith, found_none _ _)
@@ -21,10 +18,10 @@ loop-k-preserved c =
     let i = c.loop-k.invariant.1 in
     let e = c.section_ceiling-l.ensures in (
       omega arith,
-      ⊎_elim
-          (λ w. rw (w.1 ∙ e, w.2) (found_taken _ _ _ _ _ i (omega arith)))
-          (λ w. rw (w.1, w.2) (found_kept _ _ _ _ _ i (omega arith)))
-          c.if-l-ceiling.branch,
+      elim c.if-l-ceiling.branch [
+        | then-l-ceiling w ↦ rw (w.ceiling-is ∙ e, w.holder-is) (found_taken _ _ _ _ _ i (omega arith))
+        | else-l-ceiling w ↦ rw (w.ceiling-is, w.holder-is) (found_kept _ _ _ _ _ i (omega arith))
+      ],
     )
 
 pub returns : goal.returns

@@ -1,11 +1,6 @@
 -- `choice::subsystem::system_section` meets its contract. The loop's invariant: what was found is the smallest ceiling of the tasks passed, and the first of them with it.
-use mathlib.Core.Path.{◌≡◌, ◌∙◌}
-use mathlib.Core.Logic.{⊎_elim}
 use Prim.Native.Nat.{◌≤◌, ◌-◌}
-use native.Mathlib.Omega.{arith}
-use borrow.Author.Rules.{rules}
 use Rattle.choice.specs.Columns.{section_ceiling, Found}
-use Rattle.choice.proofs.Found.{found_none, found_taken, found_kept}
 use Rattle.choice.proofs.subsystem.system_section.Given as goal
 
 abbrev pub invariant-loop-k : goal.invariant-loop-k

@@ -1,7 +1,6 @@
 -- `choice::task::keeps` meets its contract, by whether the task waits.
 use mathlib.Core.Path.{sym, ◌∙◌}
 use native.Mathlib.Omega.{arith}
-use borrow.Author.Rules.{rules}
 use Rattle.choice.proofs.Columns.{keeps_waiting, keeps_section}
 use Rattle.choice.proofs.task.keeps.Goals as goal
 

@@ -1,6 +1,5 @@
 -- `choice::task::local_at` meets its contract, by whether the resource is global.
 use mathlib.Core.Path.{sym, ◌∙◌}
-use borrow.Author.Rules.{rules}
 use Rattle.choice.proofs.Columns.{local_global, local_local}
 use Rattle.choice.proofs.task.local_at.Goals as goal
 

@@ -1,16 +1,13 @@
 use mathlib.Core.Path.{◌≡◌, sym, ◌∙◌}
-use mathlib.Core.Logic.{⊎_elim}
-use mathlib.Core.Bool.{◌&&◌, and-true}
-use Prim.Native.Nat.{ℕ, ◌≤◌, ◌-◌}
+use mathlib.Core.Bool.{and-true}
 use native.Mathlib.Omega.{arith}
 use lib.Dec.{ltb}
 use lib.ListN.{get_or}
-use borrow.Author.Rules.{rules}
-use Rattle.below.specs.Below.{all}
 use Rattle.below.proofs.Search.{all_none}
 use Rattle.below.proofs.Least.{below_taken, below_kept, all_after}
 use Rattle.choice.specs.Columns.{local_at, below_held}
 use Rattle.choice.proofs.task.lowest_held.Goals as goal
+use Rattle.choice.proofs.task.lowest_held.Goals.{then-l-lowest, else-l-lowest}
 
 pub loop-i-init : goal.loop-i-init
 loop-i-init c = (omega arith, λ t. rw all_none (sym (and-true _)))
@@ -30,7 +27,10 @@ loop-i-preserved c =
       λ t.
           all_after l.i (λ j. ltb t (local_at a.kinds.now a.ceilings.now a.held.now a.k j)) (ltb t a.low) _ _
           (l.invariant.1 t)
-          (⊎_elim (λ w. below_taken t _ _ _ (omega arith) (w.1 ∙ e)) (λ w. below_kept t _ _ _ (omega arith) w.1) c.if-l-lowest.branch),
+          (elim c.if-l-lowest.branch [
+            | then-l-lowest w ↦ below_taken t _ _ _ (omega arith) (w.lowest-is ∙ e)
+            | else-l-lowest w ↦ below_kept t _ _ _ (omega arith) w.lowest-is
+          ]),
     )
 
 pub returns : goal.returns

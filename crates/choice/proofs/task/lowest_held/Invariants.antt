@@ -1,16 +1,10 @@
 -- `choice::task::lowest_held` meets its contract. The loop's invariant: a row is below lowest exactly if it is below low and below each ceiling passed.
-use mathlib.Core.Path.{◌≡◌, sym, ◌∙◌}
-use mathlib.Core.Logic.{⊎_elim}
-use mathlib.Core.Bool.{◌&&◌, and-true}
+use mathlib.Core.Path.{◌≡◌}
+use mathlib.Core.Bool.{◌&&◌}
 use Prim.Native.Nat.{ℕ, ◌≤◌, ◌-◌}
-use native.Mathlib.Omega.{arith}
 use lib.Dec.{ltb}
-use lib.ListN.{get_or}
-use borrow.Author.Rules.{rules}
 use Rattle.below.specs.Below.{all}
-use Rattle.below.proofs.Search.{all_none}
-use Rattle.below.proofs.Least.{below_taken, below_kept, all_after}
-use Rattle.choice.specs.Columns.{local_at, below_held}
+use Rattle.choice.specs.Columns.{local_at}
 use Rattle.choice.proofs.task.lowest_held.Given as goal
 
 abbrev pub invariant-loop-i : goal.invariant-loop-i

@@ -1,7 +1,6 @@
 -- `choice::task::may_be_taken` meets its contract: at each return the tests that led there say which law holds.
 use mathlib.Core.Path.{sym}
 use native.Mathlib.Omega.{arith}
-use borrow.Author.Rules.{rules}
 use Rattle.choice.proofs.Columns.{taken_other, taken_started, taken_waiting, taken_idle, taken_ready, taken_barred}
 use Rattle.choice.proofs.task.may_be_taken.Goals as goal
 

@@ -1,19 +1,16 @@
-use mathlib.Core.Path.{◌≡◌, sym, ◌∙◌}
-use mathlib.Core.Logic.{⊎_elim}
-use mathlib.Core.Bool.{false, ◌&&◌, and-true}
-use Prim.Native.Nat.{ℕ, ◌≤◌, ◌<◌, ◌-◌}
+use mathlib.Core.Path.{sym, ◌∙◌}
+use mathlib.Core.Bool.{and-true}
 use native.Mathlib.Omega.{arith}
 use lib.Dec.{ltb}
 use borrow.Author.Count.{below_none, below_more}
-use borrow.Author.Rules.{rules}
-use Rattle.below.specs.Below.{all}
 use Rattle.below.proofs.Search.{all_none}
 use Rattle.below.proofs.Least.{all_after}
 use Rattle.plan.specs.Limits.{no_row}
-use Rattle.choice.specs.Columns.{below_held_in, keeps_in}
+use Rattle.choice.specs.Columns.{below_held_in}
 use Rattle.choice.proofs.Columns.{keeps_other, keeps_own}
 use Rattle.choice.proofs.Ready.{ready_none, ready_ended, bar_other, bar_own}
 use Rattle.choice.proofs.task.ready_below.Goals as goal
+use Rattle.choice.proofs.task.ready_below.Goals.{then-at-c+else-keeps, else-at-c}
 
 pub loop-k-init : goal.loop-k-init
 loop-k-init c = (omega arith, below_none _, λ t. rw all_none (sym (and-true _)))
@@ -35,17 +32,17 @@ loop-k-preserved c =
     let l = c.loop-k in (
       omega arith,
       below_more _ _ l.invariant.1
-          (⊎_elim
-          (λ w. keeps_own _ _ _ _ _ _ _ (omega arith) ∙ sym w.1.ensures ∙ w.2.left)
-          (λ w. keeps_other _ _ _ _ _ _ _ (omega arith))
-          c.if-at-c.branch),
+          (elim c.if-at-c.branch [
+            | then-at-c+else-keeps w ↦ keeps_own _ _ _ _ _ _ _ (omega arith) ∙ sym w.keeps.ensures ∙ w.if-keeps.false
+            | else-at-c w ↦ keeps_other _ _ _ _ _ _ _ (omega arith)
+          ]),
       λ t.
           all_after l.k (below_held_in a.owners.now a.kinds.now a.ceilings.now a.counts.now a.held.now a.c t) (ltb t no_row) _ _
           (l.invariant.2 t)
-          (⊎_elim
-          (λ w. bar_own _ _ _ _ _ _ _ _ _ (omega arith) _ w.4 w.3.ensures t)
-          (λ w. bar_other _ _ _ _ _ _ _ _ _ (omega arith) w.1 t)
-          c.if-at-c.branch),
+          (elim c.if-at-c.branch [
+            | then-at-c+else-keeps w ↦ bar_own _ _ _ _ _ _ _ _ _ (omega arith) _ w.low-is w.lowest_held-low.ensures t
+            | else-at-c w ↦ bar_other _ _ _ _ _ _ _ _ _ (omega arith) w.low-is t
+          ]),
     )
 
 pub returns : goal.returns

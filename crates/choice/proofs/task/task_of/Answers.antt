@@ -1,12 +1,8 @@
-use mathlib.Core.Path.{◌≡◌, sym, ap, ◌∙◌}
-use mathlib.Core.Bool.{false}
-use Prim.Native.Nat.{ℕ, ◌≤◌, ◌<◌, ◌-◌}
+use mathlib.Core.Path.{sym, ap, ◌∙◌}
 use native.Mathlib.Omega.{arith}
 use borrow.Author.Count.{below_none, below_more}
-use borrow.Author.Rules.{rules}
 use Rattle.below.proofs.Loops.{first_left, first_ended}
 use Rattle.choice.specs.Choice.{or_no_row}
-use Rattle.choice.specs.Columns.{taken_below}
 use Rattle.choice.proofs.Columns.{row_there, row_past}
 use Rattle.choice.proofs.task.task_of.Goals as goal
 

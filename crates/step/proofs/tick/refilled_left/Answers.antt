@@ -4,6 +4,7 @@ use native.Mathlib.Omega.{arith}
 use borrow.Author.Rules.{rules}
 use Rattle.step.proofs.Refills.{Filled, filled_begun, filled_stored, filled_passed, filled_all}
 use Rattle.step.proofs.tick.refilled_left.Goals as goal
+use Rattle.step.proofs.tick.refilled_left.Goals.{then-refill-at-le1, else-refill-at-le1}
 
 pub loop-c-init : goal.loop-c-init
 loop-c-init c = filled_begun _ _ _ (search rules)
@@ -38,7 +39,10 @@ loop-c-smaller c = omega arith
 pub loop-c-preserved : goal.loop-c-preserved
 loop-c-preserved c =
     let l = c.loop-c in
-    ⊎_elim (λ w. filled_stored _ _ _ _ _ l.invariant c.loop-c-test.true _ (omega (arith, w.0.taken)) w.1) (λ w. filled_passed _ _ _ _ _ l.invariant c.loop-c-test.true _ (omega (arith, w.0.left)) w.1) c.if-refill-at-le1.branch
+    elim c.if-refill-at-le1.branch [
+      | then-refill-at-le1 w ↦ filled_stored _ _ _ _ _ l.invariant c.loop-c-test.true _ w.if-refill-at-le1.true w.next-is
+      | else-refill-at-le1 w ↦ filled_passed _ _ _ _ _ l.invariant c.loop-c-test.true _ w.if-refill-at-le1.false w.next-is
+    ]
 
 pub returns : goal.returns
 returns c = filled_all _ _ _ _ _ c.loop-c.invariant c.loop-c-test.false

@@ -6,6 +6,7 @@ use Rattle.below.proofs.Listed.{Filled, filled_begun, filled_turn, filled_whole}
 use Rattle.step.specs.Lent.{refill_refilled}
 use Rattle.step.proofs.Refills.{refill_at, refill_now, refill_later}
 use Rattle.step.proofs.tick.refilled_refill.Goals as goal
+use Rattle.step.proofs.tick.refilled_refill.Goals.{then-n-le1, else-n-le1}
 
 pub loop-c-init : goal.loop-c-init
 loop-c-init c = filled_begun (search rules) (omega arith)
@@ -45,7 +46,10 @@ loop-c-preserved c =
     let l = c.loop-c in
     let a = c.args in
     filled_turn l.invariant c.loop-c-test.true
-    (⊎_elim (λ w. refill_now a.t2 a.t1 l.c _ (omega (arith, w.0.taken)) w.1) (λ w. refill_later a.t2 a.t1 l.c _ (omega (arith, w.0.left)) w.1) c.if-n-le1.branch)
+    (elim c.if-n-le1.branch [
+      | then-n-le1 w ↦ refill_now a.periods a.refill l.c _ w.if-n-le1.true w.next-is
+      | else-n-le1 w ↦ refill_later a.periods a.refill l.c _ w.if-n-le1.false w.next-is
+    ])
 
 pub returns : goal.returns
 unfolding refill_refilled

@@ -16,7 +16,7 @@ abbrev pub invariant-loop-turn : goal.invariant-loop-turn
 invariant-loop-turn l =
     (l.turn ≤ l.rows.subsystems)
     × ((p : Plan) → Lent p (state_with l.initial.clocks l.initial.conditions l.initial.waits l.initial.counts l.initial.held) l.rows l.lengths
-    → Settling p (record { state = state_with l.initial.clocks l.initial.conditions l.initial.waits l.initial.counts l.initial.held; l.ended = 0 }) (record { state = state_with l.clocks l.conditions l.waits l.counts l.held; l.ended = l.ended }) l.c l.turn)
+    → Settling p (record { state = state_with l.initial.clocks l.initial.conditions l.initial.waits l.initial.counts l.initial.held; ended = 0 }) (record { state = state_with l.clocks l.conditions l.waits l.counts l.held; ended = l.ended }) l.c l.turn)
 
 abbrev pub decreases-loop-turn : goal.decreases-loop-turn
 decreases-loop-turn l = l.rows.subsystems - l.turn
