@@ -16,13 +16,10 @@ loop-n-smaller c = omega arith
 
 pub loop-n-preserved : goal.loop-n-preserved
 loop-n-preserved c =
-    (digit_next c.loop-n.invariant.0 (omega arith) (omega arith) (omega arith) c.byte_before-i.ensures, omega (arith, c.byte_before-i.auto.0))
+    (digit_next c.loop-n.invariant.0 (omega arith) (omega arith) (omega arith) c.byte_before-i.ensures, omega (arith))
 
 pub byte_before-requires : goal.byte_before-requires
 byte_before-requires c = (digit_room c.loop-n.invariant.0 (omega arith), omega arith)
-
-pub shape_of-scratch : goal.shape_of-scratch
-shape_of-scratch c = omega (arith, c.byte_before.auto.0)
 
 pub returns : goal.returns
 returns c =

@@ -8,7 +8,7 @@ use Rattle.line.proofs.before.joined_before.Goals as goal
 
 pub decimal_before-requires : goal.decimal_before-requires
 decimal_before-requires c =
-    omega (arith, decimal_length 1 c.args.row (omega arith), c.byte_before-i.auto.0)
+    omega (arith, decimal_length 1 c.args.row (omega arith))
 
 pub returns-then-at-end : goal.returns-then-at-end
 returns-then-at-end c =

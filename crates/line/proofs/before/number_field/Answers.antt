@@ -12,7 +12,7 @@ byte_before-i-requires c = omega (arith, parted_length (decimal c.args.number))
 
 pub decimal_before-requires : goal.decimal_before-requires
 decimal_before-requires c =
-    omega (arith, parted_length (decimal c.args.number), c.byte_before-i.auto.0)
+    omega (arith, parted_length (decimal c.args.number))
 
 pub returns : goal.returns
 unfolding parted

@@ -16,7 +16,7 @@ joined_before-i-requires c =
 pub loop-row-preserved-then-set-row-eq1 : goal.loop-row-preserved-then-set-row-eq1
 loop-row-preserved-then-set-row-eq1 c =
     let l = c.loop-row in
-    (row_in l.invariant.0 (omega arith) (omega arith) c.if-set-row-eq1.true c.joined_before-i.ensures, omega arith, omega (arith, c.joined_before-i.auto.0))
+    (row_in l.invariant.0 (omega arith) (omega arith) c.if-set-row-eq1.true c.joined_before-i.ensures, omega arith, omega (arith))
 
 pub loop-row-preserved : goal.loop-row-preserved
 loop-row-preserved c = (row_out c.loop-row.invariant.0 (omega arith) c.if-set-row-eq1.false, omega arith, omega arith)

@@ -10,9 +10,6 @@ use Rattle.line.proofs.Names.{alone_tick, alone_other}
 use Rattle.line.proofs.Whole.{read_alone, read_rows}
 use Rattle.line.proofs.events.event_in.Goals as goal
 
-within : (c : goal.After-find-t) → c.find-t.result ≤ length c.args.body.now
-within c = found_le tab _ _ c.find-t.ensures
-
 pub slice_bounds-kind_of-end : goal.slice_bounds-kind_of-end
 slice_bounds-kind_of-end c = found_length tab _ _ c.find-t.ensures
 
@@ -25,10 +22,13 @@ returns-then-t-body c =
     sym (read_alone _ _ _ c.kind_of-kind.ensures (found_none tab _ _ c.find-t.ensures c.if-t-body.true) c.if-t-body.true ∙ alone_other _ (λ e. omega (arith, c.if-kind-eq4.false)))
 
 pub overflow_add-t : goal.overflow_add-t
-overflow_add-t c = omega (arith, within c)
+overflow_add-t c = omega (arith, found_le tab _ _ c.find-t.ensures)
 
 pub slice_bounds-rows_of-count : goal.slice_bounds-rows_of-count
-slice_bounds-rows_of-count c = omega (arith, within c, c.if-t-body.false)
+slice_bounds-rows_of-count c = omega (arith, found_le tab _ _ c.find-t.ensures, c.if-t-body.false)
+
+pub slice_bounds-rows_of-start : goal.slice_bounds-rows_of-start
+slice_bounds-rows_of-start c = omega (arith, found_le tab _ _ c.find-t.ensures, c.if-t-body.false)
 
 pub returns : goal.returns
 returns c =

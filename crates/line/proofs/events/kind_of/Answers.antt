@@ -7,44 +7,26 @@ use Rattle.text.specs.Bytes.{bytes, same}
 use Rattle.line.proofs.Names.{kind_0, kind_1, kind_2, Late, kind_3, kind_4, kind_5}
 use Rattle.line.proofs.events.kind_of.Goals as goal
 
--- what a test that failed says
-no_release : (c : goal.Else-is_same) → same c.args.name.now (bytes "release") ≡ false
-unfolding bytes
-no_release c = sym c.is_same.ensures ∙ c.if-is_same.false
-
-no_lock : (c : goal.Else-is_same-2) → same c.args.name.now (bytes "lock") ≡ false
-unfolding bytes
-no_lock c = sym c.is_same-2.ensures ∙ c.if-is_same-2.false
-
-late : (c : goal.Else-is_same-3) → Late c.args.name.now
-unfolding bytes
-late c =
-    (no_release c, no_lock c, sym c.is_same-3.ensures ∙ c.if-is_same-3.false)
-
-no_end : (c : goal.Else-is_same-4) → same c.args.name.now (bytes "end") ≡ false
-unfolding bytes
-no_end c = sym c.is_same-4.ensures ∙ c.if-is_same-4.false
-
 pub returns-then-is_same : goal.returns-then-is_same
 unfolding bytes
 returns-then-is_same c = omega (arith, kind_0 _ (sym c.is_same.ensures ∙ c.if-is_same.true))
 
 pub returns-then-is_same-2 : goal.returns-then-is_same-2
 unfolding bytes
-returns-then-is_same-2 c = omega (arith, kind_1 _ (no_release c) (sym c.is_same-2.ensures ∙ c.if-is_same-2.true))
+returns-then-is_same-2 c = omega (arith, kind_1 _ (sym c.is_same.ensures ∙ c.if-is_same.false) (sym c.is_same-2.ensures ∙ c.if-is_same-2.true))
 
 pub returns-then-is_same-3 : goal.returns-then-is_same-3
 unfolding bytes
-returns-then-is_same-3 c = omega (arith, kind_2 _ (no_release c) (no_lock c) (sym c.is_same-3.ensures ∙ c.if-is_same-3.true))
+returns-then-is_same-3 c = omega (arith, kind_2 _ (sym c.is_same.ensures ∙ c.if-is_same.false) (sym c.is_same-2.ensures ∙ c.if-is_same-2.false) (sym c.is_same-3.ensures ∙ c.if-is_same-3.true))
 
 pub returns-then-is_same-4 : goal.returns-then-is_same-4
 unfolding bytes
-returns-then-is_same-4 c = omega (arith, kind_3 _ (late c) (sym c.is_same-4.ensures ∙ c.if-is_same-4.true))
+returns-then-is_same-4 c = omega (arith, kind_3 _ (sym c.is_same.ensures ∙ c.if-is_same.false, sym c.is_same-2.ensures ∙ c.if-is_same-2.false, sym c.is_same-3.ensures ∙ c.if-is_same-3.false) (sym c.is_same-4.ensures ∙ c.if-is_same-4.true))
 
 pub returns-then-is_same-5 : goal.returns-then-is_same-5
 unfolding bytes
-returns-then-is_same-5 c = omega (arith, kind_4 _ (late c) (no_end c) (sym c.is_same-5.ensures ∙ c.if-is_same-5.true))
+returns-then-is_same-5 c = omega (arith, kind_4 _ (sym c.is_same.ensures ∙ c.if-is_same.false, sym c.is_same-2.ensures ∙ c.if-is_same-2.false, sym c.is_same-3.ensures ∙ c.if-is_same-3.false) (sym c.is_same-4.ensures ∙ c.if-is_same-4.false) (sym c.is_same-5.ensures ∙ c.if-is_same-5.true))
 
 pub returns : goal.returns
 unfolding bytes
-returns c = omega (arith, kind_5 _ (late c) (no_end c) (sym c.is_same-5.ensures ∙ c.if-is_same-5.false))
+returns c = omega (arith, kind_5 _ (sym c.is_same.ensures ∙ c.if-is_same.false, sym c.is_same-2.ensures ∙ c.if-is_same-2.false, sym c.is_same-3.ensures ∙ c.if-is_same-3.false) (sym c.is_same-4.ensures ∙ c.if-is_same-4.false) (sym c.is_same-5.ensures ∙ c.if-is_same-5.false))

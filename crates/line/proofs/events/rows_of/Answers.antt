@@ -8,13 +8,12 @@ use Rattle.line.proofs.Names.{kind_one, kind_two, kind_rows, one_or_two}
 use Rattle.line.proofs.events.rows_of.Goals as goal
 
 pub returns-in-0 : goal.returns-in-0
-returns-in-0 c = c.one_row.ensures ∙ sym (last_row_lem _ _) ∙ sym (kind_one _ c.in_default-1.keys1 _)
+returns-in-0 c = c.one_row.ensures ∙ sym (last_row_lem _ _) ∙ sym (kind_one _ c.in-0.is _)
 
 pub returns-in-1 : goal.returns-in-1
 returns-in-1 c =
-    c.two_rows.ensures ∙ sym (kind_two _ (one_or_two _ (λ e. c.in_default-1.rest.1 (inl e)) c.if-kind-lt3.true) _)
+    c.two_rows.ensures ∙ sym (kind_two _ (search rules) _)
 
 pub returns-in_default : goal.returns-in_default
 returns-in_default c =
-    let n : c.args.kind ≡ 3 → ⊥ = λ e. c.in_default-1.rest.1 (inr e) in
-    sym (kind_rows _ (omega arith) _)
+    sym (kind_rows _ (grind arith) _)

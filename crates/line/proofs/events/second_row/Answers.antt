@@ -5,7 +5,7 @@ use Rattle.line.proofs.Behind.{last_not, last_is}
 use Rattle.line.proofs.events.second_row.Goals as goal
 
 pub returns-in_default : goal.returns-in_default
-returns-in_default c = sym (last_not _ _ (sym c.number_of_lem.ensures ∙ c.enum_told-1.given.1))
+returns-in_default c = sym (last_not _ _ (sym c.number_of.ensures ∙ c.in_default.is))
 
 pub returns : goal.returns
-returns c = sym (last_is _ _ _ (sym c.number_of_lem.ensures ∙ c.resource-1.given.1))
+returns c = sym (last_is _ _ _ (sym c.number_of.ensures ∙ c.in-Written.is))

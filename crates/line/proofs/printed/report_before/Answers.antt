@@ -1,8 +1,11 @@
 -- `line::printed::report_before` meets its contract: the fields, the last first, and that each finds its room.
-use Prim.Native.Nat.{◌≤◌}
+use Prim.Native.Nat.{ℕ, ◌^◌, ◌<◌, ◌≤◌}
 use native.Mathlib.Omega.{arith}
 use lib.ListN.{length}
+use lib.IntN.{ℤ}
 use mir.Facts.{to_z-of_z}
+use mir.Syntax.{w64}
+use mir.Val.{SFits}
 use borrow.Author.Rules.{rules}
 use Rattle.text.specs.Numbers.{decimal}
 use Rattle.line.specs.Before.{parted}
@@ -13,36 +16,36 @@ use Rattle.line.proofs.Spaced.{field_more, field_last, number_room}
 use Rattle.line.proofs.printed.report_before.Goals as goal
 
 -- the room that each field takes
-rooms : (s : goal.Start)
-    → (length (signed (read s.args.margin)) ≤ 20)
-    × (length (parted (decimal s.args.demand)) ≤ 21)
-    × (length (parted (decimal s.args.blocking)) ≤ 6)
-    × (length (parted (decimal s.args.budget)) ≤ 6)
-    × (length (parted (decimal s.args.period)) ≤ 6)
-    × (length (parted (decimal s.args.row)) ≤ 4)
-rooms s = (
-  rw (to_z-of_z s.ranges.margin) (signed_length s.args.margin s.ranges.margin),
-  number_room 19 s.args.demand (omega arith),
-  number_room 4 s.args.blocking (omega arith),
-  number_room 4 s.args.budget (omega arith),
-  number_room 4 s.args.period (omega arith),
-  number_room 2 s.args.row (omega arith),
+rooms : (m : ℤ) (demand blocking budget period row : ℕ) → SFits w64 m → demand < 2 ^ 64 → blocking < 2 ^ 16 → budget < 2 ^ 16 → period < 2 ^ 16 → row < 2 ^ 8
+    → (length (signed (read m)) ≤ 20)
+    × (length (parted (decimal demand)) ≤ 21)
+    × (length (parted (decimal blocking)) ≤ 6)
+    × (length (parted (decimal budget)) ≤ 6)
+    × (length (parted (decimal period)) ≤ 6)
+    × (length (parted (decimal row)) ≤ 4)
+rooms m demand blocking budget period row f h1 h2 h3 h4 h5 = (
+  rw (to_z-of_z f) (signed_length m f),
+  number_room 19 demand (omega arith),
+  number_room 4 blocking (omega arith),
+  number_room 4 budget (omega arith),
+  number_room 4 period (omega arith),
+  number_room 2 row (omega arith),
 )
 
 pub number_field-at-requires : goal.number_field-at-requires
-number_field-at-requires c = omega (arith, rooms c)
+number_field-at-requires c = omega (arith, rooms c.args.margin c.args.demand c.args.blocking c.args.budget c.args.period c.args.row c.ranges.margin (omega arith) (omega arith) (omega arith) (omega arith) (omega arith))
 
 pub number_field-at-requires-2 : goal.number_field-at-requires-2
-number_field-at-requires-2 c = omega (arith, rooms c, c)
+number_field-at-requires-2 c = omega (arith, rooms c.args.margin c.args.demand c.args.blocking c.args.budget c.args.period c.args.row c.ranges.margin (omega arith) (omega arith) (omega arith) (omega arith) (omega arith))
 
 pub number_field-at-requires-3 : goal.number_field-at-requires-3
-number_field-at-requires-3 c = omega (arith, rooms c, c)
+number_field-at-requires-3 c = omega (arith, rooms c.args.margin c.args.demand c.args.blocking c.args.budget c.args.period c.args.row c.ranges.margin (omega arith) (omega arith) (omega arith) (omega arith) (omega arith))
 
 pub number_field-at-requires-4 : goal.number_field-at-requires-4
-number_field-at-requires-4 c = omega (arith, rooms c, c)
+number_field-at-requires-4 c = omega (arith, rooms c.args.margin c.args.demand c.args.blocking c.args.budget c.args.period c.args.row c.ranges.margin (omega arith) (omega arith) (omega arith) (omega arith) (omega arith))
 
 pub number_field-requires : goal.number_field-requires
-number_field-requires c = omega (arith, rooms c, c)
+number_field-requires c = omega (arith, rooms c.args.margin c.args.demand c.args.blocking c.args.budget c.args.period c.args.row c.ranges.margin (omega arith) (omega arith) (omega arith) (omega arith) (omega arith))
 
 pub returns : goal.returns
 unfolding report_text

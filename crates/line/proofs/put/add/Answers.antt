@@ -16,12 +16,12 @@ returns-then-out-fill c =
     (sym (fill_none a.out.now a.fill a.line.now (omega arith)), sym (out_none a.out.now a.fill a.line.now (omega arith)))
 
 -- the new fill is the one asked for
-filled : (c : goal.In-Fill-2)
+filled : (c : goal.In-Fill)
     → let a = c.args in
-    Fill (a.fill + c.filled-1.given.0.0) ≡ fill_after a.out.now a.fill a.line.now
+    Fill (a.fill + c.in-Fill.n) ≡ fill_after a.out.now a.fill a.line.now
 filled c =
     let a = c.args in
-    fill_part a.out.now a.fill a.line.now _ (sym c.filled-1.given.1 ∙ c.put-filled.ensures.0)
+    fill_part a.out.now a.fill a.line.now _ (sym c.in-Fill.is ∙ c.put-filled.ensures.0)
 
 pub overflow_add-result : goal.overflow_add-result
 overflow_add-result c =
@@ -37,4 +37,4 @@ returns-in-Fill c =
 pub returns-in-NoRoom : goal.returns-in-NoRoom
 returns-in-NoRoom c =
     let a = c.args in
-    (none_part a.out.now a.fill a.line.now (sym c.enum_told-1.given.1 ∙ c.put-filled.ensures.0), out_part a.out.now a.fill a.line.now c.put-filled.ensures.1)
+    (none_part a.out.now a.fill a.line.now (sym c.in-NoRoom.is ∙ c.put-filled.ensures.0), out_part a.out.now a.fill a.line.now c.put-filled.ensures.1)
