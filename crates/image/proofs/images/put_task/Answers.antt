@@ -27,9 +27,6 @@ bounds-image-at-7 c = simp length-set (omega arith)
 pub bounds-image-at-8 : goal.bounds-image-at-8
 bounds-image-at-8 c = simp length-set (omega arith)
 
-pub shape_of-image : goal.shape_of-image
-shape_of-image c = simp length-set refl
-
 pub returns : goal.returns
 returns c =
     let e : length c.args.t.held ≡ 4 = search rules in

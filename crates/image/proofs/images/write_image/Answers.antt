@@ -21,4 +21,4 @@ unfolding image_written subsystem_bytes task_at left_of refill_of used_of
 returns c =
     let long : length c.args.image.now ≡ image_bytes = omega (arith, c.if-image-ne320.false) in
     let t = eq-eqb _ _ long in
-    (sym t, rw t (image_written_lem c.args.t1 c.args.image.now _ _ long c.write_counts.ensures c.write_tasks.ensures))
+    (sym t, rw t (image_written_lem c.args.s c.args.image.now _ _ long c.write_counts.ensures c.write_tasks.ensures))

@@ -14,7 +14,7 @@ use Rattle.image.proofs.RowsWritten.{task_turn}
 use Rattle.image.proofs.images.write_tasks.Given as goal
 
 abbrev pub invariant-loop-k : goal.invariant-loop-k
-invariant-loop-k l = (l.k ≤ 32) × (length l.image ≡ length l.initial.image) × (l.image ≡ paste l.initial.image 64 (joined (listed 32 (λ l.k. task_bytes (task_at (columns [] [] [] l.conditions l.waits l.counts l.held) l.k)))) (8 * l.k))
+invariant-loop-k l = (l.k ≤ 32) × (length l.image ≡ length l.initial.image) × (l.image ≡ paste l.initial.image 64 (joined (listed 32 (λ k. task_bytes (task_at (columns [] [] [] l.conditions l.waits l.counts l.held) k)))) (8 * l.k))
 
 abbrev pub decreases-loop-k : goal.decreases-loop-k
 decreases-loop-k l = 32 - l.k
