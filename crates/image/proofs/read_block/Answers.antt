@@ -20,7 +20,7 @@ unfolding byte_at
 returns-then-b-ne0 c =
     let b = c.args.b.now in
     let e = c.if-b-ne1108.false in
-    let small : (k : ℕ) → get_or b k 0 < 256 = λ k. omega (arith, c.shared_slice_known-2-1.given k) in
+    let small : (k : ℕ) → get_or b k 0 < 256 = λ k. omega (arith, c.type_inv.b k) in
     c.refused-then-b-ne0.ensures
     ∙ read_refused b 31
     (number_31 b e (is_block_lem b e small ∙ rw (ne_eqb _ _ c.if-b-ne0.true) (and-false (accepted (plan_of b)))))
@@ -31,7 +31,7 @@ unfolding byte_at
 returns-then-not-accepted c =
     let b = c.args.b.now in
     let e = c.if-b-ne1108.false in
-    let small : (k : ℕ) → get_or b k 0 < 256 = λ k. omega (arith, c.shared_slice_known-2-1.given k) in
+    let small : (k : ℕ) → get_or b k 0 < 256 = λ k. omega (arith, c.type_inv.b k) in
     let no : accepted (plan_of b) ≡ false
     = ap accepted (sym c.read_plan-plan.ensures) ∙ sym c.accepted.ensures ∙ c.if-not-accepted.true in
     c.refused-then-not-accepted.ensures ∙ read_refused b 31 (number_31 b e (is_block_lem b e small ∙ rw no)) refl
@@ -41,7 +41,7 @@ unfolding byte_at
 returns c =
     let b = c.args.b.now in
     let e = c.if-b-ne1108.false in
-    let small : (k : ℕ) → get_or b k 0 < 256 = λ k. omega (arith, c.shared_slice_known-2-1.given k) in
+    let small : (k : ℕ) → get_or b k 0 < 256 = λ k. omega (arith, c.type_inv.b k) in
     let yes : accepted (plan_of b) ≡ true
     = ap accepted (sym c.read_plan-plan.ensures) ∙ sym c.accepted.ensures ∙ c.if-not-accepted.false in
     rw c.read_plan-plan.ensures
