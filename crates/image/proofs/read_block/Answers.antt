@@ -4,12 +4,11 @@ use mathlib.Core.Bool.{true, false, and-false}
 use Prim.Native.Nat.{ℕ, ◌<◌}
 use lib.ListN.{get_or}
 use native.Mathlib.Omega.{arith}
-use borrow.Author.Tests.{eq-eqb, ne_eqb, not-true, not-false}
+use borrow.Author.Tests.{eq-eqb, ne_eqb}
 use Rattle.plan.specs.Accepted.{accepted}
 use Rattle.image.specs.Words.{byte_at}
 use Rattle.image.specs.Block.{plan_of}
 use Rattle.image.proofs.BlockLaws.{is_block_lem, number_34, number_31, number_0, read_refused, read_accepted}
-use borrow.Author.Rules.{rules}
 use Rattle.image.proofs.read_block.Goals as goal
 
 pub returns-then-b-ne1108 : goal.returns-then-b-ne1108

@@ -1,6 +1,6 @@
 -- The eight stores are those of the row, in turn.
 use native.Mathlib.Omega.{arith}
-use mathlib.Core.Path.{◌≡◌, refl}
+use mathlib.Core.Path.{◌≡◌}
 use lib.ListN.{length, length-set}
 use Rattle.image.proofs.RowsWritten.{task_stored}
 use borrow.Author.Rules.{rules}

@@ -2,9 +2,7 @@ use native.Mathlib.Omega.{arith}
 use borrow.Author.Rules.{rules}
 use mathlib.Core.Path.{◌≡◌, refl, ◌∙◌}
 use mathlib.Core.List.{[]}
-use Prim.Native.Nat.{◌*◌, ◌-◌, ◌≤◌}
-use lib.ListN.{length}
-use lib.Seq.{paste, paste-zero}
+use lib.Seq.{paste-zero}
 use Rattle.below.specs.Listed.{listed}
 use Rattle.state.specs.Lent.{columns}
 use Rattle.state.specs.State.{left_of, refill_of, used_of}
@@ -19,13 +17,12 @@ loop-c-init c =
 
 pub loop-c-preserved : goal.loop-c-preserved
 unfolding left_of refill_of used_of
-loop-c-preserved c =
-    (
-      omega arith,
-      c.put_counts.auto.image ∙ c.loop-c.invariant.1,
-      counts_turn (columns c.args.left c.args.refill.now c.args.used.now [] [] [] []) c.args.image.now c.loop-c.c c.loop-c.image c.put_counts.new.image _ _ _
-          c.loop-c-test.true c.loop-c.invariant.2 c.left_at-q.ensures c.word_at-ticks.ensures c.word_at-spent.ensures c.put_counts.ensures,
-    )
+loop-c-preserved c = (
+  omega arith,
+  c.put_counts.auto.image ∙ c.loop-c.invariant.1,
+  counts_turn (columns c.args.left c.args.refill.now c.args.used.now [] [] [] []) c.args.image.now c.loop-c.c c.loop-c.image c.put_counts.new.image _ _ _
+      c.loop-c-test.true c.loop-c.invariant.2 c.left_at-q.ensures c.word_at-ticks.ensures c.word_at-spent.ensures c.put_counts.ensures,
+)
 
 pub returns : goal.returns
 returns c =

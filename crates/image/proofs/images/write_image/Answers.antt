@@ -7,7 +7,6 @@ use Rattle.state.specs.State.{task_at, left_of, refill_of, used_of}
 use Rattle.image.specs.Image.{image_bytes, subsystem_bytes}
 use Rattle.image.specs.Opening.{image_written}
 use Rattle.image.proofs.RowsWritten.{image_written_lem}
-use borrow.Author.Rules.{rules}
 use Rattle.image.proofs.images.write_image.Goals as goal
 
 pub returns-then-image-ne320 : goal.returns-then-image-ne320

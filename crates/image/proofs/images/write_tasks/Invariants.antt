@@ -1,16 +1,13 @@
 -- The loop's invariant: the buffer at entry, with the rows of the tasks passed pasted in.
-use native.Mathlib.Omega.{arith}
-use borrow.Author.Rules.{rules}
-use mathlib.Core.Path.{◌≡◌, refl, ◌∙◌}
+use mathlib.Core.Path.{◌≡◌}
 use mathlib.Core.List.{[]}
 use Prim.Native.Nat.{◌*◌, ◌-◌, ◌≤◌}
 use lib.ListN.{length}
-use lib.Seq.{paste, paste-zero}
+use lib.Seq.{paste}
 use Rattle.below.specs.Listed.{listed}
 use Rattle.state.specs.Lent.{columns}
 use Rattle.state.specs.State.{task_at}
 use Rattle.image.specs.Image.{task_bytes, joined}
-use Rattle.image.proofs.RowsWritten.{task_turn}
 use Rattle.image.proofs.images.write_tasks.Given as goal
 
 abbrev pub invariant-loop-k : goal.invariant-loop-k

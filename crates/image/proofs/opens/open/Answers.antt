@@ -5,7 +5,6 @@ use mathlib.Core.List.{List}
 use Prim.Native.Nat.{ℕ, ◌<◌}
 use lib.ListN.{length, get_or}
 use native.Mathlib.Omega.{arith}
-use borrow.Author.Tests.{not-true, not-false}
 use Rattle.below.specs.Listed.{listed}
 use Rattle.plan.specs.Accepted.{accepted}
 use Rattle.plan.specs.Ceiling.{ceiling}
@@ -13,10 +12,9 @@ use Rattle.state.specs.declared.State.{State}
 use Rattle.legal.specs.Legal.{legal}
 use Rattle.image.specs.declared.Block.{Block}
 use Rattle.image.specs.BlockCalls.{block_read}
-use Rattle.image.specs.Block.{block_bytes, plan_of, is_block}
-use Rattle.image.specs.Image.{image_bytes, state_of}
+use Rattle.image.specs.Block.{block_bytes, plan_of}
+use Rattle.image.specs.Image.{state_of}
 use Rattle.image.proofs.OpenedLaws.{read_is, refused_block, read_block_is, legal_read, not_padded, not_legal, image_passes, short_block, short_image, no_block, no_image, both_opened}
-use borrow.Author.Rules.{rules}
 use Rattle.image.proofs.opens.open.Goals as goal
 
 -- the test of the state, with what was read

@@ -1,11 +1,8 @@
 use native.Mathlib.Omega.{arith}
 use borrow.Author.Rules.{rules}
 use mathlib.Core.Path.{ap}
-use Prim.Native.Nat.{ℕ, ◌*◌, ◌-◌}
-use mathlib.Core.List.{List}
-use Rattle.below.proofs.Listed.{Filled, filled_begun, filled_turn, filled_whole}
-use Rattle.state.specs.declared.BudgetLeft.{BudgetLeft}
-use Rattle.image.specs.Words.{word_at}
+use Prim.Native.Nat.{ℕ}
+use Rattle.below.proofs.Listed.{filled_begun, filled_turn, filled_whole}
 use Rattle.image.proofs.opens.read_left.Goals as goal
 
 pub loop-c-init : goal.loop-c-init

@@ -1,10 +1,7 @@
 -- The loop's invariant: every subsystem passed has the number at its place.
-use native.Mathlib.Omega.{arith}
-use borrow.Author.Rules.{rules}
-use mathlib.Core.Path.{ap}
 use Prim.Native.Nat.{ℕ, ◌*◌, ◌-◌}
 use mathlib.Core.List.{List}
-use Rattle.below.proofs.Listed.{Filled, filled_begun, filled_turn, filled_whole}
+use Rattle.below.proofs.Listed.{Filled}
 use Rattle.state.specs.declared.BudgetLeft.{BudgetLeft}
 use Rattle.image.specs.Words.{word_at}
 use Rattle.image.proofs.opens.read_left.Given as goal
