@@ -4,12 +4,11 @@ use mathlib.Core.Bool.{true, false, and-false}
 use Prim.Native.Nat.{ℕ, ◌<◌}
 use lib.ListN.{get_or}
 use native.Mathlib.Omega.{arith}
-use borrow.Author.Tests.{eq-eqb, ne_eqb, not-true, not-false}
+use borrow.Author.Tests.{eq-eqb, ne_eqb}
 use Rattle.plan.specs.Accepted.{accepted}
 use Rattle.image.specs.Words.{byte_at}
 use Rattle.image.specs.Block.{plan_of}
 use Rattle.image.proofs.BlockLaws.{is_block_lem, number_34, number_31, number_0, read_refused, read_accepted}
-use borrow.Author.Rules.{rules}
 use Rattle.image.proofs.read_block.Goals as goal
 
 pub returns-then-b-ne1108 : goal.returns-then-b-ne1108
@@ -20,7 +19,7 @@ unfolding byte_at
 returns-then-b-ne0 c =
     let b = c.args.b.now in
     let e = c.if-b-ne1108.false in
-    let small : (k : ℕ) → get_or b k 0 < 256 = λ k. omega (arith, c.shared_slice_known-2-1.given k) in
+    let small : (k : ℕ) → get_or b k 0 < 256 = λ k. omega (arith, c.type_inv.b k) in
     c.refused-then-b-ne0.ensures
     ∙ read_refused b 31
     (number_31 b e (is_block_lem b e small ∙ rw (ne_eqb _ _ c.if-b-ne0.true) (and-false (accepted (plan_of b)))))
@@ -31,7 +30,7 @@ unfolding byte_at
 returns-then-not-accepted c =
     let b = c.args.b.now in
     let e = c.if-b-ne1108.false in
-    let small : (k : ℕ) → get_or b k 0 < 256 = λ k. omega (arith, c.shared_slice_known-2-1.given k) in
+    let small : (k : ℕ) → get_or b k 0 < 256 = λ k. omega (arith, c.type_inv.b k) in
     let no : accepted (plan_of b) ≡ false
     = ap accepted (sym c.read_plan-plan.ensures) ∙ sym c.accepted.ensures ∙ c.if-not-accepted.true in
     c.refused-then-not-accepted.ensures ∙ read_refused b 31 (number_31 b e (is_block_lem b e small ∙ rw no)) refl
@@ -41,7 +40,7 @@ unfolding byte_at
 returns c =
     let b = c.args.b.now in
     let e = c.if-b-ne1108.false in
-    let small : (k : ℕ) → get_or b k 0 < 256 = λ k. omega (arith, c.shared_slice_known-2-1.given k) in
+    let small : (k : ℕ) → get_or b k 0 < 256 = λ k. omega (arith, c.type_inv.b k) in
     let yes : accepted (plan_of b) ≡ true
     = ap accepted (sym c.read_plan-plan.ensures) ∙ sym c.accepted.ensures ∙ c.if-not-accepted.false in
     rw c.read_plan-plan.ensures

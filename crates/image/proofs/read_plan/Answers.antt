@@ -6,7 +6,6 @@ use Rattle.below.specs.Listed.{listed}
 use Rattle.below.proofs.Listed.{listed_agree}
 use Rattle.image.specs.Words.{byte_at, word_at}
 use Rattle.image.specs.Block.{plan_of}
-use borrow.Author.Rules.{rules}
 use Rattle.image.proofs.read_plan.Goals as goal
 
 pub returns : goal.returns

@@ -10,82 +10,51 @@ use Rattle.image.proofs.Written.{written}
 use borrow.Author.Rules.{rules}
 use Rattle.image.proofs.write_block.Goals as goal
 
-sized : (c : goal.Start) → Sized c.args.t1
-sized c =
-    record {
-      periods = search rules;
-      budgets = search rules;
-      owners = search rules;
-      kinds = search rules;
-      lengths = search rules;
-    }
-
-abbrev start : goal.After-write_subsystems → goal.Start
-start c = c
-
-abbrev first : goal.After-write_bytes → goal.After-write_subsystems
-first c = c
-
-abbrev second : goal.After-write_bytes-2 → goal.After-write_bytes
-second c = c
-
-abbrev third : goal.After-write_words → goal.After-write_bytes-2
-third c = c
-
-long_1 : (c : goal.After-write_subsystems) → length c.write_subsystems.new.1.1.0 ≡ block_bytes
-long_1 c = c.write_subsystems.auto.1.1.0 ∙ simp length-set c.if-block-ne1108.false
-
-long_2 : (c : goal.After-write_bytes) → length c.write_bytes.new.1.0 ≡ block_bytes
-long_2 c = c.write_bytes.auto.1.0 ∙ long_1 (first c)
-
-long_3 : (c : goal.After-write_bytes-2) → length c.write_bytes-2.new.1.0 ≡ block_bytes
-long_3 c = c.write_bytes-2.auto.1.0 ∙ long_2 (second c)
-
 pub returns-then-block-ne1108 : goal.returns-then-block-ne1108
 unfolding block_written
 returns-then-block-ne1108 c =
     let e = ne_eqb _ _ c.if-block-ne1108.true in
     (sym e, rw e)
 
-pub bounds-block-2 : goal.bounds-block-2
-bounds-block-2 c = simp length-set (omega arith)
-
-pub bounds-block-3 : goal.bounds-block-3
-bounds-block-3 c = simp length-set (omega arith)
-
 pub write_subsystems-requires : goal.write_subsystems-requires
 write_subsystems-requires c =
-    let z = sized c in
-    (z.periods ∙ sym z.budgets, simp length-set (omega (arith, z.periods, c.if-block-ne1108.false)))
+    let periods : length c.args.p.periods ≡ 8 = search rules in
+    let budgets : length c.args.p.budgets ≡ 8 = search rules in
+    (periods ∙ sym budgets, simp length-set (omega arith))
 
 pub write_bytes-requires : goal.write_bytes-requires
 write_bytes-requires c =
-    omega (arith, long_1 c, (sized (start c)).owners)
+    let owners : length c.args.p.owners ≡ 32 = search rules in
+    let long : length c.write_subsystems.new.block ≡ block_bytes = c.write_subsystems.auto.block ∙ simp length-set c.if-block-ne1108.false in
+    omega (arith, owners, long)
 
 pub write_bytes-requires-2 : goal.write_bytes-requires-2
 write_bytes-requires-2 c =
-    omega (arith, long_2 c, (sized (start (first c))).kinds)
+    let kinds : length c.args.p.kinds ≡ 16 = search rules in
+    let long : length c.write_bytes.new.block ≡ block_bytes
+    = c.write_bytes.auto.block ∙ c.write_subsystems.auto.block ∙ simp length-set c.if-block-ne1108.false in
+    omega (arith, kinds, long)
 
 pub write_words-requires : goal.write_words-requires
 write_words-requires c =
-    omega (arith, long_3 c, (sized (start (first (second c)))).lengths)
-
-pub shape_of-block : goal.shape_of-block
-shape_of-block c =
-    let c3 = third c in
-    c.write_words.auto.1.0 ∙ long_3 c3 ∙ sym (first (second c3)).before.before.before.before.before.before.before.if1.false
+    let lengths : length c.args.p.lengths ≡ 512 = search rules in
+    let long : length c.write_bytes-2.new.block ≡ block_bytes
+    = c.write_bytes-2.auto.block ∙ c.write_bytes.auto.block ∙ c.write_subsystems.auto.block ∙ simp length-set c.if-block-ne1108.false in
+    omega (arith, lengths, long)
 
 pub returns : goal.returns
 unfolding block_written
 returns c =
-    let c3 = third c in
-    let c2 = second c3 in
-    let c1 = first c2 in
-    let c0 = start c1 in
-    let e = c1.before.before.before.before.before.before.before.if1.left in
-    let t = eq-eqb _ _ e in (
+    let sized : Sized c.args.p = record {
+      periods = search rules;
+      budgets = search rules;
+      owners = search rules;
+      kinds = search rules;
+      lengths = search rules;
+    } in
+    let t = eq-eqb _ _ c.if-block-ne1108.false in (
       sym t,
       rw t
-          (written _ (sized c0) c0.args.block.now e _ _ _ _ c1.write_subsystems.ensures c2.write_bytes.ensures c3.write-bytes2.ensures
+          (written _ sized c.args.block.now c.if-block-ne1108.false _ _ _ _ c.write_subsystems.ensures c.write_bytes.ensures c.write_bytes-2.ensures
           c.write_words.ensures),
     )

@@ -1,6 +1,5 @@
 -- Each word is stored behind the one before it.
 use Rattle.image.proofs.RowsWritten.{counts_stored}
-use borrow.Author.Rules.{rules}
 use Rattle.image.proofs.images.put_counts.Goals as goal
 
 pub returns : goal.returns

@@ -1,6 +1,6 @@
 -- The eight stores are those of the row, in turn.
 use native.Mathlib.Omega.{arith}
-use mathlib.Core.Path.{◌≡◌, refl}
+use mathlib.Core.Path.{◌≡◌}
 use lib.ListN.{length, length-set}
 use Rattle.image.proofs.RowsWritten.{task_stored}
 use borrow.Author.Rules.{rules}
@@ -26,9 +26,6 @@ bounds-image-at-7 c = simp length-set (omega arith)
 
 pub bounds-image-at-8 : goal.bounds-image-at-8
 bounds-image-at-8 c = simp length-set (omega arith)
-
-pub shape_of-image : goal.shape_of-image
-shape_of-image c = simp length-set refl
 
 pub returns : goal.returns
 returns c =

@@ -2,9 +2,7 @@ use native.Mathlib.Omega.{arith}
 use borrow.Author.Rules.{rules}
 use mathlib.Core.Path.{◌≡◌, refl, ◌∙◌}
 use mathlib.Core.List.{[]}
-use Prim.Native.Nat.{◌*◌, ◌-◌, ◌≤◌}
-use lib.ListN.{length}
-use lib.Seq.{paste, paste-zero}
+use lib.Seq.{paste-zero}
 use Rattle.below.specs.Listed.{listed}
 use Rattle.state.specs.Lent.{columns}
 use Rattle.state.specs.State.{left_of, refill_of, used_of}
@@ -17,36 +15,14 @@ loop-c-init c =
     let a = c.args in
     (search rules, refl, paste-zero a.image.now 0 (joined (listed 8 (subsystem_bytes (columns a.left a.refill.now a.used.now [] [] [] [])))))
 
-pub overflow_cast-c : goal.overflow_cast-c
-overflow_cast-c c = omega arith
-
-pub overflow_cast-c-in-loop-c : goal.overflow_cast-c-in-loop-c
-overflow_cast-c-in-loop-c c = omega arith
-
-pub overflow_cast-c-in-loop-c-2 : goal.overflow_cast-c-in-loop-c-2
-overflow_cast-c-in-loop-c-2 c = omega arith
-
-pub overflow_mul-c : goal.overflow_mul-c
-overflow_mul-c c = omega arith
-
-pub overflow_add-c : goal.overflow_add-c
-overflow_add-c c = omega arith
-
-pub loop-c-smaller : goal.loop-c-smaller
-loop-c-smaller c = omega arith
-
 pub loop-c-preserved : goal.loop-c-preserved
 unfolding left_of refill_of used_of
-loop-c-preserved c =
-    (
-      omega arith,
-      c.put_counts.auto.0 ∙ c.loop-c.invariant.1,
-      counts_turn (columns c.args.left c.args.refill.now c.args.used.now [] [] [] []) c.args.image.now c.loop-c.c c.loop-c.image c.put_counts.new.0 _ _ _
-          c.loop-c-test.true c.loop-c.invariant.2 c.left_at-q.ensures c.word_at-ticks.ensures c.word_at-spent.ensures c.put_counts.ensures,
-    )
-
-pub shape_of-image : goal.shape_of-image
-shape_of-image c = c.loop-c.invariant.1
+loop-c-preserved c = (
+  omega arith,
+  c.put_counts.auto.image ∙ c.loop-c.invariant.1,
+  counts_turn (columns c.args.left c.args.refill.now c.args.used.now [] [] [] []) c.args.image.now c.loop-c.c c.loop-c.image c.put_counts.new.image _ _ _
+      c.loop-c-test.true c.loop-c.invariant.2 c.left_at-q.ensures c.word_at-ticks.ensures c.word_at-spent.ensures c.put_counts.ensures,
+)
 
 pub returns : goal.returns
 returns c =

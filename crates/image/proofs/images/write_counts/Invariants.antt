@@ -1,16 +1,12 @@
 -- The loop's invariant: the buffer at entry, with the rows of the subsystems passed pasted in.
-use native.Mathlib.Omega.{arith}
-use borrow.Author.Rules.{rules}
-use mathlib.Core.Path.{◌≡◌, refl, ◌∙◌}
+use mathlib.Core.Path.{◌≡◌}
 use mathlib.Core.List.{[]}
 use Prim.Native.Nat.{◌*◌, ◌-◌, ◌≤◌}
 use lib.ListN.{length}
-use lib.Seq.{paste, paste-zero}
+use lib.Seq.{paste}
 use Rattle.below.specs.Listed.{listed}
 use Rattle.state.specs.Lent.{columns}
-use Rattle.state.specs.State.{left_of, refill_of, used_of}
 use Rattle.image.specs.Image.{subsystem_bytes, joined}
-use Rattle.image.proofs.RowsWritten.{counts_turn}
 use Rattle.image.proofs.images.write_counts.Given as goal
 
 abbrev pub invariant-loop-c : goal.invariant-loop-c

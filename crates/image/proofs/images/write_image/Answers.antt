@@ -7,7 +7,6 @@ use Rattle.state.specs.State.{task_at, left_of, refill_of, used_of}
 use Rattle.image.specs.Image.{image_bytes, subsystem_bytes}
 use Rattle.image.specs.Opening.{image_written}
 use Rattle.image.proofs.RowsWritten.{image_written_lem}
-use borrow.Author.Rules.{rules}
 use Rattle.image.proofs.images.write_image.Goals as goal
 
 pub returns-then-image-ne320 : goal.returns-then-image-ne320
@@ -21,4 +20,4 @@ unfolding image_written subsystem_bytes task_at left_of refill_of used_of
 returns c =
     let long : length c.args.image.now ≡ image_bytes = omega (arith, c.if-image-ne320.false) in
     let t = eq-eqb _ _ long in
-    (sym t, rw t (image_written_lem c.args.t1 c.args.image.now _ _ long c.write_counts.ensures c.write_tasks.ensures))
+    (sym t, rw t (image_written_lem c.args.s c.args.image.now _ _ long c.write_counts.ensures c.write_tasks.ensures))

@@ -2,9 +2,7 @@ use native.Mathlib.Omega.{arith}
 use borrow.Author.Rules.{rules}
 use mathlib.Core.Path.{◌≡◌, refl, ◌∙◌}
 use mathlib.Core.List.{[]}
-use Prim.Native.Nat.{◌*◌, ◌-◌, ◌≤◌}
-use lib.ListN.{length}
-use lib.Seq.{paste, paste-zero}
+use lib.Seq.{paste-zero}
 use Rattle.below.specs.Listed.{listed}
 use Rattle.state.specs.Lent.{columns}
 use Rattle.state.specs.State.{task_at}
@@ -18,33 +16,15 @@ loop-k-init c =
     let s = columns [] [] [] a.conditions.now a.waits.now a.counts.now a.held.now in
     (search rules, refl, paste-zero a.image.now 64 (joined (listed 32 (λ k. task_bytes (task_at s k)))))
 
-pub overflow_cast-k : goal.overflow_cast-k
-overflow_cast-k c = omega arith
-
-pub overflow_mul-k : goal.overflow_mul-k
-overflow_mul-k c = omega arith
-
-pub overflow_add-k : goal.overflow_add-k
-overflow_add-k c = omega arith
-
-pub overflow_add-k-in-loop-k : goal.overflow_add-k-in-loop-k
-overflow_add-k-in-loop-k c = omega arith
-
-pub loop-k-smaller : goal.loop-k-smaller
-loop-k-smaller c = omega arith
-
 pub loop-k-preserved : goal.loop-k-preserved
 loop-k-preserved c =
     let a = c.args in
     let s = columns [] [] [] a.conditions.now a.waits.now a.counts.now a.held.now in (
       omega arith,
-      c.put_task.auto.0 ∙ c.loop-k.invariant.1,
-      task_turn s a.image.now c.loop-k.k c.loop-k.image c.put_task.new.0 _ c.loop-k-test.true (omega arith) c.loop-k.invariant.2
+      c.put_task.auto.image ∙ c.loop-k.invariant.1,
+      task_turn s a.image.now c.loop-k.k c.loop-k.image c.put_task.new.image _ c.loop-k-test.true (omega arith) c.loop-k.invariant.2
           c.task_at-t.ensures c.put_task.ensures,
     )
-
-pub shape_of-image : goal.shape_of-image
-shape_of-image c = c.loop-k.invariant.1
 
 pub returns : goal.returns
 returns c =

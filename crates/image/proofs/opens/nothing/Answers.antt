@@ -1,7 +1,6 @@
 -- The plan of no line and a blank state.
 use Rattle.image.specs.BlockCalls.{block_refused}
 use Rattle.image.specs.Opening.{opened_refused}
-use borrow.Author.Rules.{rules}
 use Rattle.image.proofs.opens.nothing.Goals as goal
 
 pub returns : goal.returns

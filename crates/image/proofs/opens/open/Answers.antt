@@ -1,49 +1,29 @@
 -- Lengths, the block, the bytes that are always 0, and the state are tested in this order. Each end is one of the definition's.
 use mathlib.Core.Path.{◌≡◌, sym, ◌∙◌}
-use mathlib.Core.Bool.{true}
+use mathlib.Core.Bool.{Bool, true}
 use mathlib.Core.List.{List}
 use Prim.Native.Nat.{ℕ, ◌<◌}
 use lib.ListN.{length, get_or}
 use native.Mathlib.Omega.{arith}
-use borrow.Author.Tests.{not-true, not-false}
+use Rattle.below.specs.Listed.{listed}
+use Rattle.plan.specs.Accepted.{accepted}
+use Rattle.plan.specs.Ceiling.{ceiling}
+use Rattle.state.specs.declared.State.{State}
 use Rattle.legal.specs.Legal.{legal}
-use Rattle.image.specs.Block.{block_bytes, plan_of, is_block}
-use Rattle.image.specs.Image.{image_bytes, state_of}
+use Rattle.image.specs.declared.Block.{Block}
+use Rattle.image.specs.BlockCalls.{block_read}
+use Rattle.image.specs.Block.{block_bytes, plan_of}
+use Rattle.image.specs.Image.{state_of}
 use Rattle.image.proofs.OpenedLaws.{read_is, refused_block, read_block_is, legal_read, not_padded, not_legal, image_passes, short_block, short_image, no_block, no_image, both_opened}
-use borrow.Author.Rules.{rules}
 use Rattle.image.proofs.opens.open.Goals as goal
 
-abbrev block : goal.After-read_block-b → List ℕ
-block c = c.args.block.now
-
-abbrev image : goal.After-read_block-b → List ℕ
-image c = c.args.image.now
-
-long : (c : goal.After-read_block-b) → length (block c) ≡ block_bytes
-long c = omega (arith, c.if-block-ne1108.false)
-
-full : (c : goal.After-read_block-b) → length (image c) ≡ image_bytes
-full c = omega (arith, c.if-image-ne320.false)
-
-small : (c : goal.After-read_block-b) (k : ℕ) → get_or (image c) k 0 < 256
-small c k = omega (arith, c.shared_slice_known-2-1.given k)
-
-abbrev read : goal.Else-b-ne0 → goal.After-read_block-b
-read c = c
-
-is : (c : goal.Else-b-ne0) → is_block (block (read c)) ≡ true
-is c = read_block_is (block (read c)) (long (read c)) _ (read c).read_block.ensures c.if-b-ne0.false
-
-plan_is : (c : goal.Else-b-ne0) → (read c).read_block.result.plan ≡ plan_of (block (read c))
-plan_is c = (read_is (block (read c)) (long (read c)) _ (read c).read_block.ensures (is c)).1
-
-abbrev passed : goal.After-legal → goal.Else-b-ne0
-passed c = c
-
-legal_is : (c : goal.After-legal) → c.legal.result ≡ legal (plan_of (block (read (passed c)))) (state_of (image (read (passed c))))
-legal_is c =
-    legal_read (block (read (passed c))) (image (read (passed c))) _ _ _ _ (is (passed c)) (plan_is (passed c)) c.ceilings-ceilings.ensures
-    c.read_state-state.ensures c.legal.ensures
+-- the test of the state, with what was read
+legal_is : (block image : List ℕ) → length block ≡ block_bytes → (b : Block) → b ≡ block_read block → b.number ≡ 0 → (ceilings : List ℕ) (s : State) (r : Bool)
+    → ceilings ≡ listed 16 (ceiling b.plan) → s ≡ state_of image → (accepted b.plan ≡ true → ceilings ≡ listed 16 (ceiling b.plan) → r ≡ legal b.plan s)
+    → r ≡ legal (plan_of block) (state_of image)
+legal_is block image long b e z ceilings s r ec es f =
+    let is = read_block_is block long b e z in
+    legal_read block image _ _ _ _ is (read_is block long b e is).1 ec es f
 
 pub returns-then-block-ne1108 : goal.returns-then-block-ne1108
 returns-then-block-ne1108 c = c.nothing.ensures ∙ short_block _ _ (λ h. c.if-block-ne1108.true (omega arith))
@@ -53,27 +33,43 @@ returns-then-image-ne320 c = c.nothing-then-image-ne320.ensures ∙ short_image 
 
 pub returns-then-b-ne0 : goal.returns-then-b-ne0
 returns-then-b-ne0 c =
-    c.nothing-then-b-ne0.ensures ∙ no_block _ _ (long c) (full c) (refused_block (block c) (long c) _ c.read_block-b.ensures c.if-b-ne0.true)
+    let long = c.if-block-ne1108.false in
+    c.nothing-then-b-ne0.ensures
+    ∙ no_block _ _ long c.if-image-ne320.false (refused_block c.args.block.now long _ c.read_block-b.ensures c.if-b-ne0.true)
 
 pub returns-then-not-pads_clear : goal.returns-then-not-pads_clear
 returns-then-not-pads_clear c =
-    let r = read c in
+    let block = c.args.block.now in
+    let image = c.args.image.now in
+    let long = c.if-block-ne1108.false in
+    let full = c.if-image-ne320.false in
+    let small : (k : ℕ) → get_or image k 0 < 256 = λ k. omega (arith, c.type_inv.image k) in
     c.nothing-then-not-pads_clear.ensures
-    ∙ no_image _ _ (long r) (full r) (is c)
-    (not_padded (plan_of (block r)) (image r) (full r) (small r) (sym c.pads_clear.ensures ∙ c.if-not-pads_clear.true))
+    ∙ no_image _ _ long full (read_block_is block long _ c.read_block-b.ensures c.if-b-ne0.false)
+    (not_padded (plan_of block) image full small (sym c.pads_clear.ensures ∙ c.if-not-pads_clear.true))
 
 pub returns-then-not-legal : goal.returns-then-not-legal
 returns-then-not-legal c =
-    let r = read (passed c) in
+    let block = c.args.block.now in
+    let image = c.args.image.now in
+    let long = c.if-block-ne1108.false in
+    let full = c.if-image-ne320.false in
+    let small : (k : ℕ) → get_or image k 0 < 256 = λ k. omega (arith, c.type_inv.image k) in
+    let e = legal_is block image long _ c.read_block-b.ensures c.if-b-ne0.false _ _ _ c.ceilings-ceilings.ensures c.read_state-state.ensures c.legal.ensures in
     c.nothing-then-not-legal.ensures
-    ∙ no_image _ _ (long r) (full r) (is (passed c))
-    (not_legal (plan_of (block r)) (image r) (full r) (small r) (sym (legal_is c) ∙ c.if-not-legal.true))
+    ∙ no_image _ _ long full (read_block_is block long _ c.read_block-b.ensures c.if-b-ne0.false)
+    (not_legal (plan_of block) image full small (sym e ∙ c.if-not-legal.true))
 
 pub returns : goal.returns
 returns c =
-    let e = passed c in
-    let r = read e in
-    both_opened (block r) (image r) (long r) (full r) _ _ _ (plan_is e) c.ceilings-ceilings.ensures c.read_state-state.ensures (is e)
-    (image_passes (plan_of (block r)) (image r) (full r) (small r)
+    let block = c.args.block.now in
+    let image = c.args.image.now in
+    let long = c.if-block-ne1108.false in
+    let full = c.if-image-ne320.false in
+    let small : (k : ℕ) → get_or image k 0 < 256 = λ k. omega (arith, c.type_inv.image k) in
+    let e = legal_is block image long _ c.read_block-b.ensures c.if-b-ne0.false _ _ _ c.ceilings-ceilings.ensures c.read_state-state.ensures c.legal.ensures in
+    let is = read_block_is block long _ c.read_block-b.ensures c.if-b-ne0.false in
+    both_opened block image long full _ _ _ (read_is block long _ c.read_block-b.ensures is).1 c.ceilings-ceilings.ensures c.read_state-state.ensures is
+    (image_passes (plan_of block) image full small
     (sym c.pads_clear.ensures ∙ c.if-not-pads_clear.false)
-    (sym (legal_is c) ∙ c.if-not-legal.false))
+    (sym e ∙ c.if-not-legal.false))

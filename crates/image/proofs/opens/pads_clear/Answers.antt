@@ -1,8 +1,6 @@
 -- Both kinds of rows.
 use mathlib.Core.Path.{sym, ◌∙◌}
-use borrow.Author.Tests.{not-true, not-false}
 use Rattle.image.specs.Pads.{pads_zero}
-use borrow.Author.Rules.{rules}
 use Rattle.image.proofs.opens.pads_clear.Goals as goal
 
 pub returns-then-not-subsystem_pads : goal.returns-then-not-subsystem_pads

@@ -1,33 +1,12 @@
 use native.Mathlib.Omega.{arith}
 use borrow.Author.Rules.{rules}
 use mathlib.Core.Path.{ap}
-use Prim.Native.Nat.{ℕ, ◌*◌, ◌-◌}
-use mathlib.Core.List.{List}
-use Rattle.below.proofs.Listed.{Filled, filled_begun, filled_turn, filled_whole}
-use Rattle.state.specs.declared.BudgetLeft.{BudgetLeft}
-use Rattle.image.specs.Words.{word_at}
+use Prim.Native.Nat.{ℕ}
+use Rattle.below.proofs.Listed.{filled_begun, filled_turn, filled_whole}
 use Rattle.image.proofs.opens.read_left.Goals as goal
-
-abbrev left_at : List ℕ → ℕ → BudgetLeft
-left_at b k = record { 0 = word_at b (8 * k) }
 
 pub loop-c-init : goal.loop-c-init
 loop-c-init c = filled_begun (search rules) (omega arith)
-
-pub overflow_mul-c : goal.overflow_mul-c
-overflow_mul-c c = omega arith
-
-pub offset_bounds-left-c : goal.offset_bounds-left-c
-offset_bounds-left-c c = omega arith
-
-pub bounds-left-c : goal.bounds-left-c
-bounds-left-c c = omega arith
-
-pub overflow_add-c : goal.overflow_add-c
-overflow_add-c c = omega arith
-
-pub loop-c-smaller : goal.loop-c-smaller
-loop-c-smaller c = omega arith
 
 pub loop-c-preserved : goal.loop-c-preserved
 loop-c-preserved c = filled_turn c.loop-c.invariant c.loop-c-test.true (ap (λ (n : ℕ). record { 0 = n }) c.word_at.ensures)

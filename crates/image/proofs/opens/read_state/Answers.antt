@@ -6,7 +6,6 @@ use Rattle.below.specs.Listed.{listed}
 use Rattle.below.proofs.Listed.{listed_agree}
 use Rattle.image.specs.Words.{word_at}
 use Rattle.image.specs.Image.{state_of}
-use borrow.Author.Rules.{rules}
 use Rattle.image.proofs.opens.read_state.Goals as goal
 
 pub returns : goal.returns

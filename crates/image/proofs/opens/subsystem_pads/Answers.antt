@@ -1,8 +1,7 @@
 use native.Mathlib.Omega.{arith}
 use borrow.Author.Rules.{rules}
-use mathlib.Core.Path.{◌≡◌, sym, ap, ◌∙◌}
-use mathlib.Core.Bool.{true}
-use Prim.Native.Nat.{ℕ, ◌≤◌, ◌<◌, ◌-◌}
+use mathlib.Core.Path.{sym, ap, ◌∙◌}
+use Prim.Native.Nat.{ℕ}
 use lib.Dec.{eqb}
 use borrow.Author.Count.{below_none, below_more}
 use borrow.Author.Tests.{eq-eqb, ne_eqb}
@@ -13,21 +12,9 @@ use Rattle.image.proofs.opens.subsystem_pads.Goals as goal
 pub loop-c-init : goal.loop-c-init
 loop-c-init c = (search rules, below_none _)
 
-pub overflow_mul-c : goal.overflow_mul-c
-overflow_mul-c c = omega arith
-
-pub overflow_add-c : goal.overflow_add-c
-overflow_add-c c = omega arith
-
 pub returns-then-word_at-ne0 : goal.returns-then-word_at-ne0
 unfolding subsystem_pad
 returns-then-word_at-ne0 c = all_left _ _ _ c.loop-c-test.true (ap (λ (n : ℕ). eqb n 0) (sym c.word_at.ensures) ∙ ne_eqb _ _ c.if-word_at-ne0.true)
-
-pub overflow_add-c-in-loop-c : goal.overflow_add-c-in-loop-c
-overflow_add-c-in-loop-c c = omega arith
-
-pub loop-c-smaller : goal.loop-c-smaller
-loop-c-smaller c = omega arith
 
 pub loop-c-preserved : goal.loop-c-preserved
 unfolding subsystem_pad

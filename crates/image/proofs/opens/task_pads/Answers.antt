@@ -1,8 +1,5 @@
 use native.Mathlib.Omega.{arith}
 use borrow.Author.Rules.{rules}
-use mathlib.Core.Path.{◌≡◌}
-use mathlib.Core.Bool.{true}
-use Prim.Native.Nat.{ℕ, ◌≤◌, ◌<◌, ◌-◌}
 use borrow.Author.Count.{below_none, below_more}
 use borrow.Author.Tests.{eq-eqb, ne_eqb}
 use Rattle.below.proofs.Loops.{all_left, all_ended}
@@ -14,28 +11,10 @@ use Rattle.image.proofs.opens.task_pads.Goals as goal
 pub loop-k-init : goal.loop-k-init
 loop-k-init c = (search rules, below_none _)
 
-pub overflow_mul-k : goal.overflow_mul-k
-overflow_mul-k c = omega arith
-
-pub overflow_add-k : goal.overflow_add-k
-overflow_add-k c = omega arith
-
-pub overflow_add-k-in-loop-k : goal.overflow_add-k-in-loop-k
-overflow_add-k-in-loop-k c = omega arith
-
-pub bounds-b-k : goal.bounds-b-k
-bounds-b-k c = omega arith
-
 pub returns-then-b-k-ne0 : goal.returns-then-b-k-ne0
 unfolding task_pad byte_at task_byte_at
 returns-then-b-k-ne0 c =
     all_left _ _ _ c.loop-k-test.true (ne_eqb (byte_at c.args.b.now (task_byte_at c.loop-k.k 7)) 0 (λ e. omega (arith, c.if-b-k-ne0.true)))
-
-pub overflow_add-k-in-loop-k-2 : goal.overflow_add-k-in-loop-k-2
-overflow_add-k-in-loop-k-2 c = omega arith
-
-pub loop-k-smaller : goal.loop-k-smaller
-loop-k-smaller c = omega arith
 
 pub loop-k-preserved : goal.loop-k-preserved
 unfolding task_pad byte_at task_byte_at

@@ -1,14 +1,7 @@
 -- The loop's invariant: every task passed ends with 0.
-use native.Mathlib.Omega.{arith}
-use borrow.Author.Rules.{rules}
 use mathlib.Core.Path.{◌≡◌}
 use mathlib.Core.Bool.{true}
 use Prim.Native.Nat.{ℕ, ◌≤◌, ◌<◌, ◌-◌}
-use borrow.Author.Count.{below_none, below_more}
-use borrow.Author.Tests.{eq-eqb, ne_eqb}
-use Rattle.below.proofs.Loops.{all_left, all_ended}
-use Rattle.image.specs.Words.{byte_at}
-use Rattle.image.specs.Image.{task_byte_at}
 use Rattle.image.specs.Pads.{task_pad}
 use Rattle.image.proofs.opens.task_pads.Given as goal
 

@@ -1,9 +1,7 @@
 -- The loop's invariant: the entries passed are the bytes at their places.
-use native.Mathlib.Omega.{arith}
-use mathlib.Core.Path.{refl}
 use Prim.Native.Nat.{◌+◌, ◌-◌}
 use lib.ListN.{length}
-use Rattle.below.proofs.Listed.{Filled, filled_begun, filled_turn, filled_whole}
+use Rattle.below.proofs.Listed.{Filled}
 use Rattle.image.specs.Words.{byte_at}
 use Rattle.image.proofs.words.read_bytes.Given as goal
 

@@ -1,9 +1,7 @@
 use native.Mathlib.Omega.{arith}
 use mathlib.Core.Path.{refl}
-use Prim.Native.Nat.{◌+◌, ◌*◌, ◌-◌}
 use lib.ListN.{length}
-use Rattle.below.proofs.Listed.{Filled, filled_begun, filled_turn, filled_whole}
-use Rattle.image.specs.Words.{word_at}
+use Rattle.below.proofs.Listed.{filled_begun, filled_turn, filled_whole}
 use Rattle.image.proofs.WordLaws.{stepped}
 use Rattle.image.proofs.words.read_words.Goals as goal
 
@@ -28,23 +26,8 @@ word_at-requires c =
     let h = stepped c.loop-i.i (length a.out.now) a.step (omega arith) in
     omega arith
 
-pub offset_bounds-out-i : goal.offset_bounds-out-i
-offset_bounds-out-i c = omega arith
-
-pub bounds-out-i : goal.bounds-out-i
-bounds-out-i c = omega arith
-
-pub overflow_add-i : goal.overflow_add-i
-overflow_add-i c = omega arith
-
-pub loop-i-smaller : goal.loop-i-smaller
-loop-i-smaller c = omega arith
-
 pub loop-i-preserved : goal.loop-i-preserved
 loop-i-preserved c = filled_turn c.loop-i.invariant (omega arith) c.word_at.ensures
-
-pub shape_of-out : goal.shape_of-out
-shape_of-out c = c.loop-i.invariant.sized
 
 pub returns : goal.returns
 returns c = filled_whole c.loop-i.invariant (omega arith)

@@ -1,11 +1,8 @@
 -- The loop's invariant: the entries passed are the numbers at their places. A place of number i ends within the steps of all.
-use native.Mathlib.Omega.{arith}
-use mathlib.Core.Path.{refl}
 use Prim.Native.Nat.{◌+◌, ◌*◌, ◌-◌}
 use lib.ListN.{length}
-use Rattle.below.proofs.Listed.{Filled, filled_begun, filled_turn, filled_whole}
+use Rattle.below.proofs.Listed.{Filled}
 use Rattle.image.specs.Words.{word_at}
-use Rattle.image.proofs.WordLaws.{stepped}
 use Rattle.image.proofs.words.read_words.Given as goal
 
 abbrev pub invariant-loop-i : goal.invariant-loop-i

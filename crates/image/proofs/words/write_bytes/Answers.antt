@@ -1,9 +1,8 @@
 use native.Mathlib.Omega.{arith}
 use borrow.Author.Rules.{rules}
 use mathlib.Core.Path.{◌≡◌, refl}
-use Prim.Native.Nat.{◌-◌, ◌≤◌}
 use lib.ListN.{length, length-set}
-use lib.Seq.{paste, paste-zero}
+use lib.Seq.{paste-zero}
 use Rattle.image.proofs.WordLaws.{bytes_turn}
 use Rattle.image.proofs.words.write_bytes.Goals as goal
 
@@ -11,21 +10,6 @@ pub loop-i-init : goal.loop-i-init
 loop-i-init c =
     let a = c.args in
     (search rules, refl, paste-zero a.block.now a.at a.a.now)
-
-pub bounds-a-i : goal.bounds-a-i
-bounds-a-i c = omega arith
-
-pub overflow_add-block : goal.overflow_add-block
-overflow_add-block c = omega arith
-
-pub bounds-block-at : goal.bounds-block-at
-bounds-block-at c = omega arith
-
-pub overflow_add-i : goal.overflow_add-i
-overflow_add-i c = omega arith
-
-pub loop-i-smaller : goal.loop-i-smaller
-loop-i-smaller c = omega arith
 
 pub loop-i-preserved : goal.loop-i-preserved
 loop-i-preserved c =
@@ -35,9 +19,6 @@ loop-i-preserved c =
       simp length-set l.invariant.1,
       bytes_turn a.block.now a.at a.a.now l.i l.block c.loop-i-test.true c.requires l.invariant.2,
     )
-
-pub shape_of-block : goal.shape_of-block
-shape_of-block c = c.loop-i.invariant.1
 
 pub returns : goal.returns
 returns c =

@@ -1,11 +1,8 @@
 -- The loop's invariant: the buffer at entry, with as many bytes of the list pasted in as were passed.
-use native.Mathlib.Omega.{arith}
-use borrow.Author.Rules.{rules}
-use mathlib.Core.Path.{◌≡◌, refl}
+use mathlib.Core.Path.{◌≡◌}
 use Prim.Native.Nat.{◌-◌, ◌≤◌}
-use lib.ListN.{length, length-set}
-use lib.Seq.{paste, paste-zero}
-use Rattle.image.proofs.WordLaws.{bytes_turn}
+use lib.ListN.{length}
+use lib.Seq.{paste}
 use Rattle.image.proofs.words.write_bytes.Given as goal
 
 abbrev pub invariant-loop-i : goal.invariant-loop-i

@@ -1,12 +1,9 @@
 -- The loop's invariant: the buffer at entry, with the words of the rows passed pasted in.
-use native.Mathlib.Omega.{arith}
-use borrow.Author.Rules.{rules}
-use mathlib.Core.Path.{◌≡◌, refl, ◌∙◌}
+use mathlib.Core.Path.{◌≡◌}
 use Prim.Native.Nat.{◌*◌, ◌-◌, ◌≤◌}
 use lib.ListN.{length}
-use lib.Seq.{paste, paste-zero}
+use lib.Seq.{paste}
 use Rattle.image.specs.Block.{subsystem_words}
-use Rattle.image.proofs.WordLaws.{subsystems_turn}
 use Rattle.image.proofs.words.write_subsystems.Given as goal
 
 abbrev pub invariant-loop-s : goal.invariant-loop-s

@@ -1,12 +1,9 @@
 -- The loop's invariant: the buffer at entry, with the words of the entries passed pasted in.
-use native.Mathlib.Omega.{arith}
-use borrow.Author.Rules.{rules}
-use mathlib.Core.Path.{◌≡◌, refl, ◌∙◌}
+use mathlib.Core.Path.{◌≡◌}
 use Prim.Native.Nat.{◌*◌, ◌-◌, ◌≤◌}
 use lib.ListN.{length}
-use lib.Seq.{paste, paste-zero}
+use lib.Seq.{paste}
 use Rattle.image.specs.Words.{words}
-use Rattle.image.proofs.WordLaws.{words_turn}
 use Rattle.image.proofs.words.write_words.Given as goal
 
 abbrev pub invariant-loop-i : goal.invariant-loop-i
