@@ -20,7 +20,7 @@ use Rattle.state.specs.Sized.{Sized}
 use Rattle.legal.specs.Facts.{Legal}
 use Rattle.legal.proofs.Tasks.{section_engaged, HeldPlace, holds_place, holder_active, global_section, engaged_one}
 use Rattle.legal.proofs.Parts.{Ahead, Under, legal_tasks}
-use Rattle.choice.specs.Choice.{chosen, runs}
+use Rattle.choice.specs.Choice.{chosen}
 use Rattle.choice.proofs.Taken.{Takes}
 use Rattle.choice.proofs.Running.{running_takes}
 use Rattle.step.specs.Refusals.{lock, refusal}

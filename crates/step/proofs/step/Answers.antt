@@ -1,6 +1,5 @@
 -- 31, 32, or the event: the tests have made sure of what it asks for.
 use mathlib.Core.Path.{sym, ◌∙◌}
-use borrow.Author.Tests.{not-true, not-false}
 use Rattle.state.specs.Sized.{Sized}
 use Rattle.state.proofs.CodeStores.{unmapped}
 use Rattle.step.proofs.Stepping.{step_31, step_32, step_on, step_lent}
@@ -21,13 +20,13 @@ returns c =
     let e = c.ceilings-ceilings.ensures in
     let l = sym (c.legal.ensures a e) ∙ c.if-not-legal.false in
     let sized : Sized c.args.s =
-        record {
-          left = search (rules, unmapped);
-          refill = search rules;
-          used = search rules;
-          conditions = search rules;
-          waits = search rules;
-          counts = search rules;
-          held = search rules;
-        } in
+    record {
+      left = search (rules, unmapped);
+      refill = search rules;
+      used = search rules;
+      conditions = search rules;
+      waits = search rules;
+      counts = search rules;
+      held = search rules;
+    } in
     c.stepped.ensures _ (step_lent _ _ _ a l (c.rows_with.ensures e) sized) ∙ step_on _ _ _ _ _ a l

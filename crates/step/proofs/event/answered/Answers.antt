@@ -1,6 +1,5 @@
 -- The choice on the state, and who runs by it.
 use Rattle.step.proofs.Answering.{answered_is}
-use borrow.Author.Rules.{rules}
 use Rattle.step.proofs.event.answered.Goals as goal
 
 pub returns : goal.returns

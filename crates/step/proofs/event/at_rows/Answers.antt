@@ -4,7 +4,6 @@ use Rattle.state.specs.declared.State.{State}
 use Rattle.state.proofs.CodeLent.{task_reads}
 use Rattle.step.specs.Events.{answered}
 use Rattle.step.proofs.Answering.{rows_asked, running_is, answered_is, stepped_refused, stepped_done, own_lent, count_small, after_lent}
-use borrow.Author.Rules.{rules}
 use Rattle.step.proofs.event.at_rows.Goals as goal
 
 pub returns-then-n-ne0 : goal.returns-then-n-ne0

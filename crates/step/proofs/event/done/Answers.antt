@@ -3,7 +3,7 @@ use mathlib.Core.Path.{sym, ap, ◌∙◌}
 use Rattle.state.specs.declared.State.{State}
 use Rattle.step.specs.Events.{answered}
 use Rattle.step.proofs.Lending.{own_lengths}
-use Rattle.step.proofs.Answering.{done_release, done_lock, done_unlock, done_end, last_kind, made_ready, made_given, made_idle}
+use Rattle.step.proofs.Answering.{done_release, done_lock, done_unlock, done_end, made_ready, made_given, made_idle}
 use native.Mathlib.Omega.{arith}
 use Rattle.step.proofs.event.done.Goals as goal
 

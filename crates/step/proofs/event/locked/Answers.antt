@@ -1,8 +1,6 @@
 -- A local is taken; a global is taken or waited for.
 use mathlib.Core.Path.{refl}
-use borrow.Author.Tests.{not-true, not-false}
 use Rattle.step.proofs.Answering.{global_is, fits_is, locked_local, locked_taken, locked_waits, made_taking, made_waiting}
-use borrow.Author.Rules.{rules}
 use Rattle.step.proofs.event.locked.Goals as goal
 
 pub returns-then-not-is_global : goal.returns-then-not-is_global

@@ -1,7 +1,6 @@
 -- A number below 255 is kept; any other becomes 255.
 use borrow.Author.Tests.{lt-ltb, le-ltb}
 use Rattle.step.specs.Lent.{narrow}
-use borrow.Author.Rules.{rules}
 use Rattle.step.proofs.event.narrow.Goals as goal
 
 pub returns-then-row-lt255 : goal.returns-then-row-lt255

@@ -1,6 +1,5 @@
 -- The clocks and the columns of a state are the state.
 use Rattle.step.proofs.Answering.{outcome_by}
-use borrow.Author.Rules.{rules}
 use Rattle.step.proofs.event.stepped.Goals as goal
 
 pub returns : goal.returns

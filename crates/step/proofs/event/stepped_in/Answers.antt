@@ -3,7 +3,6 @@ use mathlib.Core.Path.{◌∙◌}
 use native.Mathlib.Omega.{arith}
 use Rattle.step.proofs.Answering.{own_lent}
 use Rattle.step.proofs.Narrowing.{narrowed, tick_kind, unknown_kind}
-use borrow.Author.Rules.{rules}
 use Rattle.step.proofs.event.stepped_in.Goals as goal
 
 pub returns-in-4 : goal.returns-in-4

@@ -2,7 +2,6 @@
 use mathlib.Core.Path.{◌∙◌}
 use Rattle.step.proofs.Lending.{owner_lent}
 use Rattle.step.proofs.Answering.{global_is, unlocked_global, unlocked_local}
-use borrow.Author.Rules.{rules}
 use Rattle.step.proofs.event.unlocked.Goals as goal
 
 pub returns-then-is_global : goal.returns-then-is_global

@@ -1,6 +1,5 @@
 -- The length that stands there is not the one of a pair without a U line.
 use Rattle.plan.specs.Plan.{length_of, declares}
-use borrow.Author.Rules.{rules}
 use Rattle.step.proofs.order.declares.Goals as goal
 
 pub returns : goal.returns

@@ -1,13 +1,10 @@
-use mathlib.Core.Path.{◌≡◌, sym, ◌∙◌}
-use mathlib.Core.Bool.{false}
-use Prim.Native.Nat.{ℕ, ◌≤◌, ◌<◌, ◌-◌}
+use mathlib.Core.Path.{sym, ◌∙◌}
 use native.Mathlib.Omega.{arith}
-use lib.Dec.{eqb}
 use borrow.Author.Count.{below_none, below_more}
 use borrow.Author.Rules.{rules}
 use borrow.Author.Tests.{eq-eqb, ne_eqb}
 use Rattle.below.proofs.Loops.{any_left, any_ended}
-use Rattle.state.specs.State.{held_at, holds}
+use Rattle.state.specs.State.{holds}
 use Rattle.step.proofs.order.holds.Goals as goal
 
 pub loop-i-init : goal.loop-i-init

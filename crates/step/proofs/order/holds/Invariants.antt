@@ -1,14 +1,9 @@
 -- The loop's invariant: none of the resources passed is the one looked for.
-use mathlib.Core.Path.{◌≡◌, sym, ◌∙◌}
+use mathlib.Core.Path.{◌≡◌}
 use mathlib.Core.Bool.{false}
 use Prim.Native.Nat.{ℕ, ◌≤◌, ◌<◌, ◌-◌}
-use native.Mathlib.Omega.{arith}
 use lib.Dec.{eqb}
-use borrow.Author.Count.{below_none, below_more}
-use borrow.Author.Rules.{rules}
-use borrow.Author.Tests.{eq-eqb, ne_eqb}
-use Rattle.below.proofs.Loops.{any_left, any_ended}
-use Rattle.state.specs.State.{held_at, holds}
+use Rattle.state.specs.State.{held_at}
 use Rattle.step.proofs.order.holds.Given as goal
 
 abbrev pub invariant-loop-i : goal.invariant-loop-i

@@ -1,6 +1,5 @@
 -- Both tests, in the definition's order.
 use mathlib.Core.Path.{sym, ◌∙◌}
-use borrow.Author.Rules.{rules}
 use Rattle.step.proofs.order.holds_already.Goals as goal
 
 pub returns-then-in_section : goal.returns-then-in_section

@@ -1,6 +1,5 @@
 -- Nothing is held, or what is held last is another.
 use borrow.Author.Tests.{eq-eqb, ne_eqb}
-use borrow.Author.Rules.{rules}
 use Rattle.step.proofs.order.not_last.Goals as goal
 
 pub returns-then-t-eq0 : goal.returns-then-t-eq0

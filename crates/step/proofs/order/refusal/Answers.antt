@@ -1,12 +1,8 @@
 use mathlib.Core.Path.{sym, ◌∙◌}
-use Prim.Native.Nat.{◌≤◌, ◌-◌}
 use native.Mathlib.Omega.{arith}
 use borrow.Author.Rules.{rules}
-use Rattle.plan.specs.declared.Plan.{Plan}
-use Rattle.state.specs.declared.State.{State}
-use Rattle.step.specs.Refusals.{refuses, refusal}
-use Rattle.step.specs.Lent.{Asked}
-use Rattle.step.proofs.Rest.{Walk, walk_start, walk_ended, walk_found, walk_passed, walk_none}
+use Rattle.step.specs.Refusals.{refusal}
+use Rattle.step.proofs.Rest.{walk_start, walk_ended, walk_found, walk_passed, walk_none}
 use Rattle.step.proofs.order.refusal.Goals as goal
 
 pub loop-i-init : goal.loop-i-init

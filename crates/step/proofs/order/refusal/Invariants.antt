@@ -1,13 +1,10 @@
 -- The loop's invariant: what is left of the row decides.
-use mathlib.Core.Path.{sym, ◌∙◌}
 use Prim.Native.Nat.{◌≤◌, ◌-◌}
-use native.Mathlib.Omega.{arith}
-use borrow.Author.Rules.{rules}
 use Rattle.plan.specs.declared.Plan.{Plan}
 use Rattle.state.specs.declared.State.{State}
 use Rattle.step.specs.Refusals.{refuses, refusal}
 use Rattle.step.specs.Lent.{Asked}
-use Rattle.step.proofs.Rest.{Walk, walk_start, walk_ended, walk_found, walk_passed, walk_none}
+use Rattle.step.proofs.Rest.{Walk}
 use Rattle.step.proofs.order.refusal.Given as goal
 
 abbrev pub invariant-loop-i : goal.invariant-loop-i

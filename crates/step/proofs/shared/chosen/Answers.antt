@@ -1,6 +1,5 @@
 -- The choice over the columns lent is the choice on the state.
 use Rattle.step.proofs.Lending.{choice_lent}
-use borrow.Author.Rules.{rules}
 use Rattle.step.proofs.shared.chosen.Goals as goal
 
 pub returns : goal.returns

@@ -1,6 +1,5 @@
 -- The kind is 1.
 use Rattle.plan.specs.Plan.{is_global}
-use borrow.Author.Rules.{rules}
 use Rattle.step.proofs.shared.is_global.Goals as goal
 
 pub returns : goal.returns

@@ -1,7 +1,6 @@
 -- Length and budget left are those of the definition.
 use Rattle.plan.specs.Plan.{owner, length_of}
 use Rattle.step.specs.Events.{length_fits_budget}
-use borrow.Author.Rules.{rules}
 use Rattle.step.proofs.shared.length_fits_budget.Goals as goal
 
 pub returns : goal.returns

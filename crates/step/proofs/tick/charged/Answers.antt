@@ -1,7 +1,6 @@
 -- The budget left is that of the definition.
 use Rattle.state.specs.State.{left_of}
 use Rattle.step.specs.Tick.{charged}
-use borrow.Author.Rules.{rules}
 use Rattle.step.proofs.tick.charged.Goals as goal
 
 pub returns : goal.returns

@@ -4,7 +4,6 @@ use Rattle.state.proofs.CodeLent.{task_reads}
 use Rattle.step.proofs.Lending.{fits_lent}
 use Rattle.step.proofs.Answering.{made_taking}
 use Rattle.step.proofs.Parts.{given_other, given_fits, given_short}
-use borrow.Author.Rules.{rules}
 use Rattle.step.proofs.tick.given_waited.Goals as goal
 
 pub returns-then-t-ne3 : goal.returns-then-t-ne3

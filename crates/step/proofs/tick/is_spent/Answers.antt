@@ -1,11 +1,9 @@
 -- Inside a section, with none of it left.
 use mathlib.Core.Path.{sym, ◌∙◌}
 use native.Mathlib.Omega.{arith}
-use borrow.Author.Tests.{not-true, not-false}
 use Rattle.state.proofs.CodeLent.{task_reads}
 use Rattle.step.proofs.Lending.{inside_lent, section_left_lent}
 use Rattle.step.proofs.Parts.{spent_outside, spent_in}
-use borrow.Author.Rules.{rules}
 use Rattle.step.proofs.tick.is_spent.Goals as goal
 
 pub returns-then-not-in_section : goal.returns-then-not-in_section

@@ -2,7 +2,6 @@
 use mathlib.Core.Path.{◌≡◌, ap}
 use Prim.Native.Nat.{ℕ, ◌-◌}
 use native.Mathlib.Omega.{arith}
-use borrow.Author.Rules.{rules}
 use Rattle.step.proofs.tick.one_charged.Goals as goal
 
 pub returns-then-q-lt1 : goal.returns-then-q-lt1

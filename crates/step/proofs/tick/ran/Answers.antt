@@ -1,13 +1,11 @@
 -- Inside a section the used count rises, and it has room.
 use mathlib.Core.Path.{sym, ◌∙◌}
 use native.Mathlib.Omega.{arith}
-use borrow.Author.Tests.{not-true, not-false}
 use Rattle.state.specs.State.{used_of}
 use Rattle.state.proofs.CodeLent.{task_reads}
 use Rattle.step.proofs.Lending.{tasks_lent, owner_lent, section_lent}
 use Rattle.step.proofs.Charged.{ran_nobody}
 use Rattle.step.proofs.Parts.{ran_out, ran_in}
-use borrow.Author.Rules.{rules}
 use Rattle.step.proofs.tick.ran.Goals as goal
 
 pub returns-then-rows-k : goal.returns-then-rows-k

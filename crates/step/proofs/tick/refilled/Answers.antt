@@ -1,6 +1,5 @@
 -- The counts are those of the definition.
 use Rattle.step.proofs.Refills.{refilled_is}
-use borrow.Author.Rules.{rules}
 use Rattle.step.proofs.tick.refilled.Goals as goal
 
 pub returns : goal.returns

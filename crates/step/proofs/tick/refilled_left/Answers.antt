@@ -1,8 +1,6 @@
-use mathlib.Core.Logic.{⊎_elim}
-use Prim.Native.Nat.{◌-◌}
 use native.Mathlib.Omega.{arith}
 use borrow.Author.Rules.{rules}
-use Rattle.step.proofs.Refills.{Filled, filled_begun, filled_stored, filled_passed, filled_all}
+use Rattle.step.proofs.Refills.{filled_begun, filled_stored, filled_passed, filled_all}
 use Rattle.step.proofs.tick.refilled_left.Goals as goal
 use Rattle.step.proofs.tick.refilled_left.Goals.{then-refill-at-le1, else-refill-at-le1}
 

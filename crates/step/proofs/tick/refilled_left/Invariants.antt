@@ -1,9 +1,6 @@
 -- The loop's invariant: every subsystem passed has its budget, and the others are as they were.
-use mathlib.Core.Logic.{⊎_elim}
 use Prim.Native.Nat.{◌-◌}
-use native.Mathlib.Omega.{arith}
-use borrow.Author.Rules.{rules}
-use Rattle.step.proofs.Refills.{Filled, filled_begun, filled_stored, filled_passed, filled_all}
+use Rattle.step.proofs.Refills.{Filled}
 use Rattle.step.proofs.tick.refilled_left.Given as goal
 
 abbrev pub invariant-loop-c : goal.invariant-loop-c

@@ -1,10 +1,8 @@
-use mathlib.Core.Logic.{⊎_elim}
-use Prim.Native.Nat.{◌-◌}
 use native.Mathlib.Omega.{arith}
 use borrow.Author.Rules.{rules}
-use Rattle.below.proofs.Listed.{Filled, filled_begun, filled_turn, filled_whole}
+use Rattle.below.proofs.Listed.{filled_begun, filled_turn, filled_whole}
 use Rattle.step.specs.Lent.{refill_refilled}
-use Rattle.step.proofs.Refills.{refill_at, refill_now, refill_later}
+use Rattle.step.proofs.Refills.{refill_now, refill_later}
 use Rattle.step.proofs.tick.refilled_refill.Goals as goal
 use Rattle.step.proofs.tick.refilled_refill.Goals.{then-n-le1, else-n-le1}
 

@@ -1,11 +1,7 @@
 -- The loop's invariant: every subsystem passed has its ticks to refill.
-use mathlib.Core.Logic.{⊎_elim}
 use Prim.Native.Nat.{◌-◌}
-use native.Mathlib.Omega.{arith}
-use borrow.Author.Rules.{rules}
-use Rattle.below.proofs.Listed.{Filled, filled_begun, filled_turn, filled_whole}
-use Rattle.step.specs.Lent.{refill_refilled}
-use Rattle.step.proofs.Refills.{refill_at, refill_now, refill_later}
+use Rattle.below.proofs.Listed.{Filled}
+use Rattle.step.proofs.Refills.{refill_at}
 use Rattle.step.proofs.tick.refilled_refill.Given as goal
 
 abbrev pub invariant-loop-c : goal.invariant-loop-c

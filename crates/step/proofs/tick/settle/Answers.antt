@@ -1,13 +1,8 @@
 use mathlib.Core.Path.{sym, ◌∙◌}
-use Prim.Native.Nat.{◌≤◌, ◌-◌}
 use native.Mathlib.Omega.{arith}
-use borrow.Author.Tests.{not-true, not-false}
-use Rattle.plan.specs.declared.Plan.{Plan}
-use Rattle.state.specs.Lent.{state_with}
-use Rattle.step.specs.Lent.{Lent}
 use Rattle.step.proofs.Lending.{own_lengths, subsystems_lent}
 use Rattle.step.proofs.Parts.{shut_is}
-use Rattle.step.proofs.Settling.{Settling, begun, again, turns_over, none_spent, settled, lent_kept, lent_after}
+use Rattle.step.proofs.Settling.{begun, again, turns_over, none_spent, settled, lent_kept, lent_after}
 use borrow.Author.Rules.{rules}
 use Rattle.step.proofs.tick.settle.Goals as goal
 
@@ -21,14 +16,13 @@ pub loop-turn-smaller : goal.loop-turn-smaller
 loop-turn-smaller c = omega arith
 
 pub loop-turn-preserved : goal.loop-turn-preserved
-loop-turn-preserved c =
-    (
-      omega arith,
-      λ p l.
-          again p _ _ _ l _ _ _ _ (c.loop-turn.invariant.1 p l) (omega (arith, c.loop-turn-test.true, subsystems_lent p _ _ l.rows_of_plan))
-          (sym (c.is_spent.ensures p l.rows_of_plan) ∙ c.if-not-is_spent.false) _ _
-          (λ z m h. shut_is p _ _ _ _ (c.shut_one-clocks.ensures p (own_lengths p _ _ l.rows_of_plan) z) (c.with_ended-ended.ensures m h)) (c.chosen-c-in-loop-turn.ensures p _ _ _),
-    )
+loop-turn-preserved c = (
+  omega arith,
+  λ p l.
+      again p _ _ _ l _ _ _ _ (c.loop-turn.invariant.1 p l) (omega (arith, c.loop-turn-test.true, subsystems_lent p _ _ l.rows_of_plan))
+      (sym (c.is_spent.ensures p l.rows_of_plan) ∙ c.if-not-is_spent.false) _ _
+      (λ z m h. shut_is p _ _ _ _ (c.shut_one-clocks.ensures p (own_lengths p _ _ l.rows_of_plan) z) (c.with_ended-ended.ensures m h)) (c.chosen-c-in-loop-turn.ensures p _ _ _),
+)
 
 pub returns-after-loop-turn : goal.returns-after-loop-turn
 returns-after-loop-turn c = λ p l.

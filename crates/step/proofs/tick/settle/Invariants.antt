@@ -1,15 +1,9 @@
 -- The loop's invariant: turns that were made and turns that are left give what all turns give, and the choice is that of the state then.
-use mathlib.Core.Path.{sym, ◌∙◌}
 use Prim.Native.Nat.{◌≤◌, ◌-◌}
-use native.Mathlib.Omega.{arith}
-use borrow.Author.Tests.{not-true, not-false}
 use Rattle.plan.specs.declared.Plan.{Plan}
 use Rattle.state.specs.Lent.{state_with}
 use Rattle.step.specs.Lent.{Lent}
-use Rattle.step.proofs.Lending.{own_lengths, subsystems_lent}
-use Rattle.step.proofs.Parts.{shut_is}
-use Rattle.step.proofs.Settling.{Settling, begun, again, turns_over, none_spent, settled, lent_kept, lent_after}
-use borrow.Author.Rules.{rules}
+use Rattle.step.proofs.Settling.{Settling}
 use Rattle.step.proofs.tick.settle.Given as goal
 
 abbrev pub invariant-loop-turn : goal.invariant-loop-turn

@@ -2,7 +2,6 @@
 use mathlib.Core.Path.{◌∙◌}
 use Rattle.step.proofs.Lending.{owner_lent}
 use Rattle.step.proofs.Parts.{made_shut}
-use borrow.Author.Rules.{rules}
 use Rattle.step.proofs.tick.shut_one.Goals as goal
 
 pub returns : goal.returns

@@ -5,7 +5,6 @@ use Rattle.choice.proofs.Held.{runs_lent}
 use Rattle.step.proofs.Lending.{own_lengths}
 use Rattle.step.proofs.Settling.{lent_kept}
 use Rattle.step.proofs.WholeTick.{ticked_idle, shut_sized, waited_room, paid_sized, used_room, ticked_in}
-use borrow.Author.Rules.{rules}
 use Rattle.step.proofs.tick.tick.Goals as goal
 
 pub returns-then-x : goal.returns-then-x

@@ -2,7 +2,6 @@
 use Prim.Native.Nat.{ℕ, ◌^◌, ◌≤◌, ◌<◌}
 use native.Mathlib.Nat.{pow-le-pow_right}
 use native.Mathlib.Omega.{arith}
-use borrow.Author.Rules.{rules}
 use Rattle.step.proofs.tick.with_ended.Goals as goal
 
 -- a bit below 32 is a number of 32 bits
