@@ -1,10 +1,9 @@
 -- A plan text that was read: a run of an accepted plan starts legal, and a refused one prints its refusal.
 use mathlib.Core.Path.{◌≡◌, refl, sym, ap, ◌∙◌}
-use mathlib.Core.Bool.{Bool, true, false, not}
+use mathlib.Core.Bool.{Bool, true, false}
 use mathlib.Core.List.{List, [], ◌∷◌}
 use Prim.Native.Nat.{ℕ}
 use lib.ListN.{take}
-use borrow.Author.Tests.{not-true, not-false}
 use Rattle.text.specs.Lines.{lines}
 use Rattle.plan.proofs.Facts.{accepted_facts}
 use Rattle.reader.specs.Numbers.{number, beside, is_accepted}
@@ -36,15 +35,15 @@ start_lent plan e =
 -- the printed lines, by what the reader gave back
 module _ (plan events : List ℕ) {r : Reading} {b : Bool} (e : r ≡ reading plan) (a : b ≡ is_accepted r.verdict) where
   -- a refused plan
-  pub refused_lines : not b ≡ true → printed_refusal (number r.verdict) (beside r.verdict) ∷ [] ≡ run_lines plan events
+  pub refused_lines : b ≡ false → printed_refusal (number r.verdict) (beside r.verdict) ∷ [] ≡ run_lines plan events
   unfolding run_lines
-  refused_lines f = rw e (sym (rw (run_lines, sym (a ∙ ap (λ (y : Reading). is_accepted y.verdict) e) ∙ not-true b f)))
+  refused_lines f = rw e (sym (rw (run_lines, sym (a ∙ ap (λ (y : Reading). is_accepted y.verdict) e) ∙ f)))
 
-  ok : not b ≡ false → is_accepted (reading plan).verdict ≡ true
-  ok t = sym (a ∙ ap (λ (y : Reading). is_accepted y.verdict) e) ∙ not-false b t
+  ok : b ≡ true → is_accepted (reading plan).verdict ≡ true
+  ok t = sym (a ∙ ap (λ (y : Reading). is_accepted y.verdict) e) ∙ t
 
   -- an accepted one, with its rows and its fresh state
-  module _ {s : State} (t : not b ≡ false) (f : s ≡ fresh r.plan) where
+  module _ {s : State} (t : b ≡ true) (f : s ≡ fresh r.plan) where
     pub accepted_lines : printed_lines 1 (outcomes r.plan s (take most_lines (lines events))) ≡ run_lines plan events
     unfolding run_lines
     accepted_lines = rw (f, e) (sym (rw (run_lines, ok t)))

@@ -8,8 +8,8 @@ use Rattle.run.proofs.lines.ask_of.Goals as goal
 
 pub returns-in-Known : goal.returns-in-Known
 unfolding line_gives event_gives
-returns-in-Known c = ap (event_gives p s) (sym c.e-1.given.1 ∙ c.event_of-e.ensures)
+returns-in-Known c p s = ap (event_gives p s) (sym c.in-Known.is ∙ c.event_of-e.ensures)
 
 pub returns-in-Malformed : goal.returns-in-Malformed
 unfolding line_gives event_gives
-returns-in-Malformed c = unknown p s _ (omega arith) ∙ ap (event_gives p s) (sym c.enum_told-1.given.1 ∙ c.event_of-e.ensures)
+returns-in-Malformed c p s = unknown p s _ (omega arith) ∙ ap (event_gives p s) (sym c.in-Malformed.is ∙ c.event_of-e.ensures)

@@ -10,7 +10,7 @@ pub returns-in-Fill : goal.returns-in-Fill
 unfolding printed
 returns-in-Fill c =
     let a = c.args in
-    let f = sym c.filled-1.given.1 ∙ c.print-filled.ensures.0 in (
+    let f = sym c.in-Fill.is ∙ c.print-filled.ensures.0 in (
       λ h. fill_within a.out.now a.fill _ h _ f,
       λ p l. lined_room p a.s a.number a.line.now a.out.now a.fill (c.stepped-o.ensures p l ∙ c.ask_of-e.ensures p a.s) c.print-filled.ensures.1 f,
     )
@@ -20,5 +20,5 @@ unfolding printed
 returns-in-NoRoom c =
     let a = c.args in (
       λ h. h,
-      λ p l. lined_none p a.s a.number a.line.now a.out.now a.fill (c.stepped-o.ensures p l ∙ c.ask_of-e.ensures p a.s) c.print-filled.ensures.1 (sym c.enum_told-1.given.1 ∙ c.print-filled.ensures.0),
+      λ p l. lined_none p a.s a.number a.line.now a.out.now a.fill (c.stepped-o.ensures p l ∙ c.ask_of-e.ensures p a.s) c.print-filled.ensures.1 (sym c.in-NoRoom.is ∙ c.print-filled.ensures.0),
     )

@@ -11,11 +11,11 @@ pub returns : goal.returns
 returns c =
     let a = c.args in
     let x =
-    row_text_lem a.t1 a.s c.word_at-period.result c.word_at-budget.result c.blocking-blocking.result c.demand-demand.result
+    row_text_lem a.p a.s c.word_at-period.result c.word_at-budget.result c.blocking-blocking.result c.demand-demand.result
     (omega (arith, c.word_at-period.ensures))
     (omega (arith, c.word_at-budget.ensures))
     (omega (arith, c.blocking-blocking.ensures))
     (omega (arith, c.demand-demand.ensures))
-    (to_z-of_z {w = w64} {z = c.margin-margin.result} (record { sfits = c.margin-margin.type-inv }) ∙ c.margin-margin.ensures)
+    (to_z-of_z {w = w64} {z = c.margin-margin.result} (record { sfits = c.margin-margin.type_inv }) ∙ c.margin-margin.ensures)
     in
     rw x at c.report_line.ensures

@@ -13,13 +13,13 @@ loop-s-init c = (omega arith, leads_rows c.args.p _ _ _ (omega arith), refl)
 
 pub returns-in_default : goal.returns-in_default
 returns-in_default c =
-    leads_out (leads_row c.args.p c.loop-s.s (omega arith) c.loop-s.invariant.1) (sym c.enum_told-1.given.1 ∙ c.report_row.ensures.0) c.report_row.ensures.1
+    leads_out (leads_row c.args.p c.loop-s.s (omega arith) c.loop-s.invariant.1) (sym c.in_default.is ∙ c.report_row.ensures.0) c.report_row.ensures.1
 
 pub loop-s-preserved : goal.loop-s-preserved
 loop-s-preserved c =
     (
       omega arith,
-      leads_on (leads_row c.args.p c.loop-s.s (omega arith) c.loop-s.invariant.1) (sym c.next-1.given.1 ∙ c.report_row.ensures.0) c.report_row.ensures.1,
+      leads_on (leads_row c.args.p c.loop-s.s (omega arith) c.loop-s.invariant.1) (sym c.in-Fill.is ∙ c.report_row.ensures.0) c.report_row.ensures.1,
       search rules,
     )
 

@@ -12,5 +12,5 @@ pub returns : goal.returns
 returns c =
     let a = c.args in
     let g = c.rows_with-rows.ensures c.ceilings.ensures in
-    let l = accepted_lent a.plan.now a.events.now c.read-r.ensures c.is_accepted.ensures c.if-not-is_accepted.false-raw c.fresh-s.ensures g in
-    rw (accepted_lines a.plan.now a.events.now c.read-r.ensures c.is_accepted.ensures c.if-not-is_accepted.false-raw c.fresh-s.ensures) at (c.run_lines.ensures c.read-r.result.plan l)
+    let l = accepted_lent a.plan.now a.events.now c.read-r.ensures c.is_accepted.ensures c.if-not-is_accepted.false c.fresh-s.ensures g in
+    rw (accepted_lines a.plan.now a.events.now c.read-r.ensures c.is_accepted.ensures c.if-not-is_accepted.false c.fresh-s.ensures) at (c.run_lines.ensures c.read-r.result.plan l)
