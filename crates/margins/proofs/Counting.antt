@@ -1,10 +1,6 @@
 -- The fill behind a report counts bytes at the start of the buffer, and these bytes are the report.
-use mathlib.Core.Path.{◌≡◌, ap}
-use mathlib.Core.List.{List}
-use Prim.Native.Nat.{ℕ, ◌≤◌}
-use native.Mathlib.Omega.{arith}
-use lib.ListN.{length, take}
-use Rattle.io.specs.Counts.{IsPrefixLen}
+use Rattle.std.proofs.Common.{◌≡◌, ap, List, ℕ, ◌≤◌, length, take, arith}
+use Rattle.std.specs.Counts.{IsPrefixLen}
 use Rattle.files.proofs.Counting.{counts}
 use Rattle.line.specs.Report.{report}
 use Rattle.run.specs.declared.Ran.{Ran}

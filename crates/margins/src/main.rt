@@ -3,11 +3,11 @@
 #![tactic(auto)]
 
 ghost use Rattle.std.specs.Prelude.{◌≡◌, ◌≤◌, length, take};
-ghost use Rattle.io.specs.Counts.{IsPrefixLen};
+ghost use Rattle.std.specs.Counts.{IsPrefixLen};
 ghost use Rattle.line.specs.Report.{report};
 
-use files::{read_file, write_out};
-use libc::STDERR_FILENO;
+use files::{argument, argument_count, open_file, read_file, write_out};
+use std::fs::File;
 
 // "Admission": the report of a text at the start of the buffer, and its length. Any report has room there.
 fn report_of(text: &[u8], out: &mut [u8]) -> usize
@@ -19,40 +19,34 @@ fn report_of(text: &[u8], out: &mut [u8]) -> usize
     ran.fill
 }
 
-fn print_report(text: &[u8]) {
+fn print_report(rt: &HostRuntime, text: &[u8]) {
     let mut out = [0u8; 1024];
     let n = report_of(text, &mut out);
-    write_out(&out[..n]);
+    write_out(rt, &out[..n]);
 }
 
 // "Admission", 20: a longer file is refused for its length, so no more than 16,385 bytes are read.
-fn print_file(fd: i32, path: &[u8]) {
+fn print_file(rt: &HostRuntime, file: &mut File, path: &[u8]) {
     let mut buf = [0u8; 16385];
-    let got = read_file(fd, &mut buf);
+    let got = read_file(rt, file, path, &mut buf);
     let n = got.count;
     if got.is_failed {
-        os::fail(path);
         return;
     }
-    print_report(&buf[..n]);
+    print_report(rt, &buf[..n]);
 }
 
-fn main() {
-    if os::arg_count() != 2 {
-        io::write_all(STDERR_FILENO, b"usage: margins PLAN\n");
+fn main(rt: HostRuntime) {
+    if argument_count(&rt) != 2 {
+        let _ = eprintln!(rt; "usage: margins PLAN");
         return;
     }
-    let mut path = io::buffer();
-    let length = os::arg(1, &mut path);
-    if os::errno() != 0 {
-        os::fail(b"margins: PLAN");
+    let mut path = [0u8; 4096];
+    let Some(length) = argument(&rt, 1, b"margins: PLAN", &mut path) else {
         return;
-    }
-    let fd = os::open_read(&path[..length]);
-    if fd < 0 {
-        os::fail(&path[..length]);
+    };
+    let Some(mut file) = open_file(&rt, &path[..length]) else {
         return;
-    }
-    print_file(fd, &path[..length]);
-    libc::close(fd);
+    };
+    print_file(&rt, &mut file, &path[..length]);
 }

@@ -2,13 +2,11 @@
 // makes, and prints a sum over the answers. It is there to be timed: the benchmark makes the same events for the second program.
 #![tactic(auto)]
 
-ghost use Rattle.io.specs.Counts.{IsPrefixLen};
-
-use files::read_file;
-use libc::{STDERR_FILENO, STDOUT_FILENO};
+use files::{argument, argument_count, open_file, read_file};
 use plan::Plan;
 use state::State;
 use state::beginning::fresh;
+use std::fs::File;
 use step::event::stepped;
 use step::{Rows, rows_with};
 
@@ -44,43 +42,36 @@ fn paced(rows: Rows, lengths: &[u16], s: State) -> u64 {
     sum
 }
 
-fn pace(p: Plan) {
+fn pace(rt: &HostRuntime, p: Plan) {
     let rows = rows_with(p, plan::ceilings(p));
     let s = fresh(p);
     let sum = paced(rows, &p.lengths, s);
-    io::print_decimal(STDOUT_FILENO, sum);
-    io::write_all(STDOUT_FILENO, b"\n");
+    let _ = println!(rt; "{sum}");
 }
 
-fn pace_file(fd: i32, path: &[u8]) {
+fn pace_file(rt: &HostRuntime, file: &mut File, path: &[u8]) {
     let mut buf = [0u8; 16385];
-    let got = read_file(fd, &mut buf);
+    let got = read_file(rt, file, path, &mut buf);
     let n = got.count;
     if got.is_failed {
-        os::fail(path);
         return;
     }
     let r = reader::read(&buf[..n]);
     let p = r.plan;
-    pace(p);
+    pace(rt, p);
 }
 
-fn main() {
-    if os::arg_count() != 2 {
-        io::write_all(STDERR_FILENO, b"usage: pace PLAN\n");
+fn main(rt: HostRuntime) {
+    if argument_count(&rt) != 2 {
+        let _ = eprintln!(rt; "usage: pace PLAN");
         return;
     }
-    let mut path = io::buffer();
-    let length = os::arg(1, &mut path);
-    if os::errno() != 0 {
-        os::fail(b"pace: PLAN");
+    let mut path = [0u8; 4096];
+    let Some(length) = argument(&rt, 1, b"pace: PLAN", &mut path) else {
         return;
-    }
-    let fd = os::open_read(&path[..length]);
-    if fd < 0 {
-        os::fail(&path[..length]);
+    };
+    let Some(mut file) = open_file(&rt, &path[..length]) else {
         return;
-    }
-    pace_file(fd, &path[..length]);
-    libc::close(fd);
+    };
+    pace_file(&rt, &mut file, &path[..length]);
 }

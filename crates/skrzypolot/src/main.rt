@@ -5,11 +5,10 @@
 mod events;
 mod pieces;
 
-use files::write_out;
-use libc::STDERR_FILENO;
+use files::{argument, argument_count, write_out};
 
 // Plan P and its events.
-fn run_sample() {
+fn run_sample(rt: &HostRuntime) {
     let mut out = [0u8; 1024];
     let r = run::run(
         b"S\t10\t4\nS\t20\t6\nT\t0\nT\t0\nT\t1\nR\tG\nR\tL\nU\t0\t0\t2\nU\t0\t1\t0\nU\t1\t1\t0\nU\t2\t0\t3\n",
@@ -18,30 +17,26 @@ fn run_sample() {
         0,
     );
     let n = r.fill;
-    write_out(&out[..n]);
+    write_out(rt, &out[..n]);
 }
 
-fn main() {
-    let arguments = os::arg_count();
+fn main(rt: HostRuntime) {
+    let arguments = argument_count(&rt);
     if arguments == 1 {
-        run_sample();
+        run_sample(&rt);
         return;
     }
     if arguments != 3 {
-        io::write_all(STDERR_FILENO, b"usage: skrzypolot [PLAN EVENTS]\n");
+        let _ = eprintln!(rt; "usage: skrzypolot [PLAN EVENTS]");
         return;
     }
-    let mut plan = io::buffer();
-    let plan_length = os::arg(1, &mut plan);
-    if os::errno() != 0 {
-        os::fail(b"skrzypolot: PLAN");
+    let mut plan = [0u8; 4096];
+    let Some(plan_length) = argument(&rt, 1, b"skrzypolot: PLAN", &mut plan) else {
         return;
-    }
-    let mut events = io::buffer();
-    let events_length = os::arg(2, &mut events);
-    if os::errno() != 0 {
-        os::fail(b"skrzypolot: EVENTS");
+    };
+    let mut events = [0u8; 4096];
+    let Some(events_length) = argument(&rt, 2, b"skrzypolot: EVENTS", &mut events) else {
         return;
-    }
-    events::run_files(&plan[..plan_length], &events[..events_length]);
+    };
+    events::run_files(&rt, &plan[..plan_length], &events[..events_length]);
 }

@@ -21,6 +21,7 @@ pub struct Answered {
 // One piece of the event file. Where a line has no room, the buffer is written out. Any line has room in an empty buffer of 128 bytes (line/proofs/Short),
 // so that such a line is then taken, and only a write that failed ends a piece early.
 pub fn answer_piece(
+    rt: &HostRuntime,
     rows: Rows,
     lengths: &[u16],
     s: Stream,
@@ -41,7 +42,7 @@ pub fn answer_piece(
         let next = f.stream;
         stream = next;
         if f.taken == 0 {
-            if !write_out(&out[..filled]) {
+            if !write_out(rt, &out[..filled]) {
                 return Answered {
                     stream,
                     fill: 0,
@@ -62,26 +63,33 @@ pub fn answer_piece(
 }
 
 // The last line alone, in a buffer that was written out.
-fn answer_last(rows: Rows, lengths: &[u16], s: Stream, out: &mut [u8]) {
+fn answer_last(rt: &HostRuntime, rows: Rows, lengths: &[u16], s: Stream, out: &mut [u8]) {
     let filled = finish(rows, lengths, s, out, 0);
     let Filled::Fill(end) = filled else {
         return;
     };
-    write_out(&out[..end]);
+    write_out(rt, &out[..end]);
 }
 
 // The end of the file: the last line, and then all that the buffer holds.
-pub fn answer_end(rows: Rows, lengths: &[u16], s: Stream, out: &mut [u8], fill: usize)
+pub fn answer_end(
+    rt: &HostRuntime,
+    rows: Rows,
+    lengths: &[u16],
+    s: Stream,
+    out: &mut [u8],
+    fill: usize,
+)
     requires { fill ≤ length out.old }
 {
     let filled = finish(rows, lengths, s, out, fill);
     match filled {
         Filled::Fill(end) => {
-            write_out(&out[..end]);
+            write_out(rt, &out[..end]);
         }
         Filled::NoRoom => {
-            if write_out(&out[..fill]) {
-                answer_last(rows, lengths, s, out);
+            if write_out(rt, &out[..fill]) {
+                answer_last(rt, rows, lengths, s, out);
             }
         }
     }

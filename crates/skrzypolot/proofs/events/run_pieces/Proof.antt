@@ -5,7 +5,7 @@ use native.Mathlib.Omega.{arith}
 use lib.ListN.{length}
 use lib.Seq.{length-take-le}
 use borrow.Author.Rules.{rules}
-use Rattle.io.specs.Counts.{IsPrefixLen}
+use Rattle.std.specs.Counts.{IsPrefixLen}
 use Rattle.skrzypolot.specs.Went.{Running}
 use Rattle.skrzypolot.proofs.events.run_pieces.Statement.{statement}
 use Rattle.skrzypolot.proofs.events.run_pieces.Tie as tie
