@@ -1,7 +1,6 @@
 -- `text::number_of` meets its contract: at each return the tests that led there say which law of number holds.
 use mathlib.Core.Path.{sym, ◌∙◌}
 use native.Mathlib.Omega.{arith}
-use borrow.Author.Rules.{rules}
 use Rattle.text.proofs.Numbers.{number_empty, number_long, number_zero, number_one, number_more}
 use Rattle.text.proofs.number_of.Goals as goal
 
