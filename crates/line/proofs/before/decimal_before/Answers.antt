@@ -1,8 +1,6 @@
-use mathlib.Core.Path.{◌≡◌, refl}
+use mathlib.Core.Path.{refl}
 use native.Mathlib.Omega.{arith}
-use lib.ListN.{length}
-use borrow.Author.Rules.{rules}
-use Rattle.line.proofs.Digits.{Written, digit_next, digit_last, digit_room}
+use Rattle.line.proofs.Digits.{digit_next, digit_last, digit_room}
 use Rattle.line.proofs.before.decimal_before.Goals as goal
 
 pub loop-n-init : goal.loop-n-init

@@ -1,10 +1,8 @@
 -- `line::before::decimal_before` meets its contract. The loop's invariant: with the digits of `n` in front the whole number will stand there.
 -- The measure is `n`.
-use mathlib.Core.Path.{◌≡◌, refl}
-use native.Mathlib.Omega.{arith}
+use mathlib.Core.Path.{◌≡◌}
 use lib.ListN.{length}
-use borrow.Author.Rules.{rules}
-use Rattle.line.proofs.Digits.{Written, digit_next, digit_last, digit_room}
+use Rattle.line.proofs.Digits.{Written}
 use Rattle.line.proofs.before.decimal_before.Given as goal
 
 abbrev pub invariant-loop-n : goal.invariant-loop-n

@@ -1,6 +1,5 @@
 -- `line::before::ended_before` meets its contract: a dash for none, else the rows.
 use native.Mathlib.Omega.{arith}
-use borrow.Author.Rules.{rules}
 use Rattle.line.proofs.Fields.{ended_none, ended_some}
 use Rattle.line.proofs.before.ended_before.Goals as goal
 

@@ -1,6 +1,5 @@
 -- `line::before::joined_before` meets its contract: a number below 32 has at most two digits, so that a comma fits beside it.
 use native.Mathlib.Omega.{arith}
-use borrow.Author.Rules.{rules}
 use Rattle.line.proofs.Composed.{then}
 use Rattle.line.proofs.Decimal.{decimal_length}
 use Rattle.line.proofs.Fields.{joined_more, joined_last}

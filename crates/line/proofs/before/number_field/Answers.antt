@@ -1,6 +1,5 @@
 -- `line::before::number_field` meets its contract: the number stands in front of the space.
 use native.Mathlib.Omega.{arith}
-use borrow.Author.Rules.{rules}
 use Rattle.line.proofs.Composed.{then}
 use Rattle.line.proofs.Fields.{parted_length}
 use Rattle.text.specs.Numbers.{decimal}

@@ -1,5 +1,4 @@
 -- `line::before::plan_field` meets its contract: five bytes, the last first.
-use borrow.Author.Rules.{rules}
 use Rattle.text.specs.Bytes.{bytes}
 use Rattle.line.specs.Before.{parted}
 use Rattle.line.proofs.Composed.{then}

@@ -1,6 +1,5 @@
 -- `line::before::row_before` meets its contract: a dash for none, else the number.
 use native.Mathlib.Omega.{arith}
-use borrow.Author.Rules.{rules}
 use Rattle.line.proofs.Decimal.{decimal_length}
 use Rattle.line.proofs.Fields.{row_none, row_some}
 use Rattle.line.proofs.before.row_before.Goals as goal

@@ -1,5 +1,4 @@
 -- `line::before::row_field` meets its contract: the row stands in front of the space.
-use borrow.Author.Rules.{rules}
 use Rattle.line.proofs.Composed.{then}
 use Rattle.line.specs.Before.{parted}
 use Rattle.line.proofs.before.row_field.Goals as goal

@@ -1,8 +1,6 @@
-use mathlib.Core.Path.{◌≡◌, refl}
-use Prim.Native.Nat.{◌≤◌}
+use mathlib.Core.Path.{refl}
 use native.Mathlib.Omega.{arith}
-use lib.ListN.{length}
-use Rattle.line.proofs.Rows.{Rows, rows_first, row_in, row_out, rows_last}
+use Rattle.line.proofs.Rows.{rows_first, row_in, row_out, rows_last}
 use Rattle.line.proofs.before.rows_before.Goals as goal
 
 pub loop-row-init : goal.loop-row-init

@@ -1,9 +1,8 @@
 -- `line::before::rows_before` meets its contract. The loop's invariant: the rows below `row` complete the text that stands. The measure is `row`.
-use mathlib.Core.Path.{◌≡◌, refl}
+use mathlib.Core.Path.{◌≡◌}
 use Prim.Native.Nat.{◌≤◌}
-use native.Mathlib.Omega.{arith}
 use lib.ListN.{length}
-use Rattle.line.proofs.Rows.{Rows, rows_first, row_in, row_out, rows_last}
+use Rattle.line.proofs.Rows.{Rows}
 use Rattle.line.proofs.before.rows_before.Given as goal
 
 abbrev pub invariant-loop-row : goal.invariant-loop-row

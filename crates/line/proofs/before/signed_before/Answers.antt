@@ -7,7 +7,6 @@ use lib.ListN.{length}
 use mir.Facts.{to_z-of_z}
 use mir.Syntax.{w64}
 use mir.Val.{SFits}
-use borrow.Author.Rules.{rules}
 use Rattle.text.specs.Numbers.{decimal}
 use Rattle.line.proofs.Composed.{then}
 use Rattle.line.proofs.Signs.{read, signed_below, signed_plain, size_length}

@@ -1,6 +1,5 @@
 -- `line::before::size_of` meets its contract: -1 less a negative number is one less than its size.
 use native.Mathlib.Omega.{arith}
-use borrow.Author.Rules.{rules}
 use Rattle.line.proofs.Signs.{Turned, turned, plain}
 use Rattle.line.proofs.before.size_of.Goals as goal
 

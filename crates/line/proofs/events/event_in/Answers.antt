@@ -1,9 +1,6 @@
 -- `line::events::event_in` meets its contract: the first tab ends the name.
 use mathlib.Core.Path.{sym, ◌∙◌}
-use Prim.Native.Nat.{◌≤◌}
 use native.Mathlib.Omega.{arith}
-use lib.ListN.{length}
-use borrow.Author.Rules.{rules}
 use Rattle.text.specs.Lines.{tab}
 use Rattle.line.proofs.Parts.{to_end_next, found_le, found_length, found_there, found_none}
 use Rattle.line.proofs.Names.{alone_tick, alone_other}

@@ -1,11 +1,8 @@
 -- `line::events::is_same` meets its contract. The loop's invariant: what is left is the same where the whole is. The measure is what is left.
-use mathlib.Core.Path.{◌≡◌, refl, sym, ◌∙◌}
+use mathlib.Core.Path.{◌≡◌}
 use Prim.Native.Nat.{◌-◌, ◌≤◌}
-use native.Mathlib.Numerals.{add-one}
-use native.Mathlib.Omega.{arith}
 use lib.ListN.{length, drop}
 use Rattle.text.specs.Bytes.{same}
-use Rattle.line.proofs.Same.{same_lengths, same_on, same_not, same_end}
 use Rattle.line.proofs.events.is_same.Given as goal
 
 abbrev pub invariant-loop-i : goal.invariant-loop-i

@@ -1,10 +1,8 @@
 -- `line::events::kind_of` meets its contract: each test in its turn.
-use mathlib.Core.Path.{◌≡◌, sym, ◌∙◌}
-use mathlib.Core.Bool.{false}
+use mathlib.Core.Path.{sym, ◌∙◌}
 use native.Mathlib.Omega.{arith}
-use borrow.Author.Rules.{rules}
-use Rattle.text.specs.Bytes.{bytes, same}
-use Rattle.line.proofs.Names.{kind_0, kind_1, kind_2, Late, kind_3, kind_4, kind_5}
+use Rattle.text.specs.Bytes.{bytes}
+use Rattle.line.proofs.Names.{kind_0, kind_1, kind_2, kind_3, kind_4, kind_5}
 use Rattle.line.proofs.events.kind_of.Goals as goal
 
 pub returns-then-is_same : goal.returns-then-is_same

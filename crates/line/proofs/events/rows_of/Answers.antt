@@ -1,10 +1,9 @@
 -- `line::events::rows_of` meets its contract: the kind says how many rows are wanted.
-use mathlib.Core.Path.{◌≡◌, sym, ◌∙◌}
-use mathlib.Core.Logic.{inl, inr}
+use mathlib.Core.Path.{sym, ◌∙◌}
 use native.Mathlib.Omega.{arith}
 use borrow.Author.Rules.{rules}
 use Rattle.line.proofs.Behind.{last_row_lem}
-use Rattle.line.proofs.Names.{kind_one, kind_two, kind_rows, one_or_two}
+use Rattle.line.proofs.Names.{kind_one, kind_two, kind_rows}
 use Rattle.line.proofs.events.rows_of.Goals as goal
 
 pub returns-in-0 : goal.returns-in-0

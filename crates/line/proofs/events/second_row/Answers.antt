@@ -1,6 +1,5 @@
 -- `line::events::second_row` meets its contract: the rest is a number or not.
 use mathlib.Core.Path.{sym, ◌∙◌}
-use borrow.Author.Rules.{rules}
 use Rattle.line.proofs.Behind.{last_not, last_is}
 use Rattle.line.proofs.events.second_row.Goals as goal
 

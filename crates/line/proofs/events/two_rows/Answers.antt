@@ -1,11 +1,7 @@
 -- `line::events::two_rows` meets its contract: the first tab parts the rows.
 use mathlib.Core.Path.{sym, ◌∙◌}
-use Prim.Native.Nat.{◌≤◌}
 use native.Mathlib.Omega.{arith}
-use lib.ListN.{length}
-use borrow.Author.Rules.{rules}
 use Rattle.text.specs.Lines.{tab}
-use Rattle.text.proofs.Parted.{Parted}
 use Rattle.line.proofs.Parts.{to_end_next, found_le, found_length, found_there, found_none}
 use Rattle.line.proofs.Behind.{two_whole, two_not, two_is}
 use Rattle.line.proofs.events.two_rows.Goals as goal

@@ -1,6 +1,5 @@
 -- `line::printed::answer_before` meets its contract: the fields, the last first, and that each finds its room.
 use native.Mathlib.Omega.{arith}
-use borrow.Author.Rules.{rules}
 use Rattle.line.specs.Printed.{answer_line}
 use Rattle.line.proofs.Spaced.{field_more, field_last, number_room, row_room}
 use Rattle.line.proofs.printed.answer_before.Goals as goal

@@ -1,8 +1,5 @@
 -- `line::printed::print` meets its contract: the text at the scratch's end is what is lent.
-use mathlib.Core.Path.{◌≡◌, refl}
-use Prim.Native.Nat.{◌-◌}
-use lib.ListN.{take, drop}
-use borrow.Author.Rules.{rules}
+use mathlib.Core.Path.{refl}
 use Rattle.line.specs.Printed.{answer_line}
 use Rattle.line.proofs.Spaced.{spaced_some, lent}
 use Rattle.line.proofs.printed.print.Goals as goal

@@ -1,6 +1,5 @@
 -- `line::printed::refusal_before` meets its contract: the fields, the last first, and that each finds its room.
 use native.Mathlib.Omega.{arith}
-use borrow.Author.Rules.{rules}
 use Rattle.line.specs.Printed.{printed_refusal}
 use Rattle.line.proofs.Decimal.{decimal_length}
 use Rattle.line.proofs.Spaced.{field_more, field_last, number_room}

@@ -6,7 +6,6 @@ use lib.IntN.{ℤ}
 use mir.Facts.{to_z-of_z}
 use mir.Syntax.{w64}
 use mir.Val.{SFits}
-use borrow.Author.Rules.{rules}
 use Rattle.text.specs.Numbers.{decimal}
 use Rattle.line.specs.Before.{parted}
 use Rattle.line.specs.Report.{signed}

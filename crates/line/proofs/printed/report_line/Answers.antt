@@ -1,9 +1,6 @@
 -- `line::printed::report_line` meets its contract: the text at the scratch's end is what is lent.
-use mathlib.Core.Path.{◌≡◌, refl}
-use Prim.Native.Nat.{◌-◌}
-use lib.ListN.{take, drop}
+use mathlib.Core.Path.{refl}
 use mir.Facts.{to_z-of_z}
-use borrow.Author.Rules.{rules}
 use Rattle.line.specs.Reported.{report_text}
 use Rattle.line.proofs.Spaced.{spaced_some, lent}
 use Rattle.line.proofs.printed.report_line.Goals as goal

@@ -3,7 +3,6 @@ use mathlib.Core.Path.{◌≡◌, sym, ◌∙◌}
 use native.Mathlib.Omega.{arith}
 use Prim.Native.Nat.{◌+◌}
 use lib.ListN.{length-drop}
-use borrow.Author.Rules.{rules}
 use Rattle.line.specs.declared.Filled.TheVariants.{Fill}
 use Rattle.line.specs.Filled.{fill_after}
 use Rattle.line.proofs.Room.{fill_none, out_none, fill_within, fill_part, none_part, out_part}

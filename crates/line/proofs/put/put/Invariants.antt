@@ -1,13 +1,8 @@
 -- `line::put::put` meets its contract. The loop's invariant: the first `i` bytes are the line's, the others stand. The measure is what is left.
-use mathlib.Core.Path.{◌≡◌, refl, sym, ap, ◌∙◌}
+use mathlib.Core.Path.{◌≡◌}
 use mathlib.Core.List.{◌++◌}
 use Prim.Native.Nat.{◌-◌, ◌≤◌}
-use native.Mathlib.Nat.{zero-add}
-use native.Mathlib.Numerals.{add-one}
-use native.Mathlib.Omega.{arith}
-use lib.ListN.{length, take, drop, length-set}
-use Rattle.line.specs.declared.Filled.TheVariants.{Fill}
-use Rattle.line.proofs.Room.{copy_next, copied, fill_room, fill_none, out_none}
+use lib.ListN.{length, take, drop}
 use Rattle.line.proofs.put.put.Given as goal
 
 abbrev pub invariant-loop-i : goal.invariant-loop-i
