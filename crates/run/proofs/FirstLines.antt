@@ -18,7 +18,7 @@ use Rattle.step.specs.Lent.{Lent}
 use Rattle.line.specs.Filled.{has_room}
 use Rattle.line.specs.Run.{line_gives}
 use Rattle.run.specs.Stream.{At, keeping, is_going, line_done, fed_byte, fed, fed_printed}
-use Rattle.run.specs.Fed.{nothing, behind, line_taken, first_line}
+use Rattle.run.specs.Fed.{nothing, line_taken, first_line}
 use Rattle.run.proofs.LineSteps.{line_lent}
 use Rattle.run.proofs.TakenLines.{taken_room, taken_none}
 

@@ -7,7 +7,7 @@ use native.Mathlib.Omega.{arith}
 use lib.Dec.{leb}
 use lib.ListN.{length, take}
 use Rattle.text.specs.Lines.{line_feed, until}
-use Rattle.text.proofs.Parted.{Parted, Whole, parted, whole}
+use Rattle.text.proofs.Parted.{Parted, Whole, parted}
 use Rattle.plan.specs.declared.Plan.{Plan}
 use Rattle.line.specs.Printed.{printed}
 use Rattle.line.specs.Run.{most_lines}

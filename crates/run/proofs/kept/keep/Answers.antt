@@ -1,9 +1,9 @@
 use mathlib.Core.Path.{◌≡◌, ◌∙◌}
-use mathlib.Core.List.{◌++◌, append-nil}
-use Prim.Native.Nat.{ℕ, ◌+◌, ◌-◌, ◌≤◌}
+use mathlib.Core.List.{append-nil}
+use Prim.Native.Nat.{ℕ, ◌≤◌}
 use native.Mathlib.Nat.{add-zero}
 use native.Mathlib.Omega.{arith}
-use lib.ListN.{length, take, length-take, length-set}
+use lib.ListN.{length, length-take, length-set}
 use borrow.Author.Rules.{rules}
 use Rattle.run.specs.declared.kept.Kept.{Kept}
 use Rattle.run.specs.Fed.{kept_of}

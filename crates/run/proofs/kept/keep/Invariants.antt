@@ -1,14 +1,9 @@
 -- `run::kept::keep` meets its contract. The loop's invariant: the first n + i bytes are those kept before and the first i of the part. The measure is
 -- what is left to copy.
-use mathlib.Core.Path.{◌≡◌, ◌∙◌}
-use mathlib.Core.List.{◌++◌, append-nil}
+use mathlib.Core.Path.{◌≡◌}
+use mathlib.Core.List.{◌++◌}
 use Prim.Native.Nat.{◌+◌, ◌-◌, ◌≤◌}
-use native.Mathlib.Nat.{add-zero}
-use native.Mathlib.Omega.{arith}
-use lib.ListN.{length, take, length-take, length-set}
-use borrow.Author.Rules.{rules}
-use Rattle.run.specs.Fed.{kept_of}
-use Rattle.run.proofs.KeptBytes.{kept_more, kept_next}
+use lib.ListN.{length, take}
 use Rattle.run.proofs.kept.keep.Given as goal
 
 abbrev pub invariant-loop-i : goal.invariant-loop-i

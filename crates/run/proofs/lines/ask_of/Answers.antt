@@ -1,7 +1,6 @@
 -- `run::lines::ask_of` meets its contract: a known event is asked as it is, and kind 5 answers as a line that is no event does.
 use mathlib.Core.Path.{◌∙◌, sym, ap}
 use native.Mathlib.Omega.{arith}
-use borrow.Author.Rules.{rules}
 use Rattle.line.specs.Run.{event_gives, line_gives}
 use Rattle.run.proofs.LineSteps.{unknown}
 use Rattle.run.proofs.lines.ask_of.Goals as goal

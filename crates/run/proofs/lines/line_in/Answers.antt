@@ -3,7 +3,6 @@ use mathlib.Core.Path.{◌≡◌, sym, ◌∙◌}
 use Prim.Native.Nat.{◌+◌, ◌≤◌}
 use native.Mathlib.Omega.{arith}
 use lib.ListN.{length}
-use borrow.Author.Rules.{rules}
 use Rattle.line.proofs.Room.{fill_within}
 use Rattle.line.proofs.Short.{answer_length}
 use Rattle.plan.specs.declared.Plan.{Plan}

@@ -1,6 +1,5 @@
 -- `run::lines::line_step` meets its contract: the line is read, its event stepped, and the outcome printed; without room nothing is taken over.
 use mathlib.Core.Path.{sym, ◌∙◌}
-use borrow.Author.Rules.{rules}
 use Rattle.line.proofs.Room.{fill_within}
 use Rattle.line.specs.Printed.{printed}
 use Rattle.run.proofs.LineSteps.{lined_room, lined_none}

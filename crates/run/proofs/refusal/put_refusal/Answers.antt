@@ -1,10 +1,7 @@
 -- `run::refusal::put_refusal` meets its contract: a single line, with room or without.
-use mathlib.Core.Path.{◌≡◌, sym, ◌∙◌}
+use mathlib.Core.Path.{sym, ◌∙◌}
 use native.Mathlib.Omega.{arith}
-use borrow.Author.Rules.{rules}
 use Rattle.reader.specs.Numbers.{number, beside}
-use Rattle.line.specs.Printed.{printed_refusal}
-use Rattle.line.specs.Filled.{fill_after, out_after}
 use Rattle.run.proofs.AsFarLaws.{leads_start, leads_on, leads_out, leads_end}
 use Rattle.run.proofs.RowsLaws.{refused_so}
 use Rattle.run.proofs.refusal.put_refusal.Goals as goal

@@ -1,7 +1,6 @@
 -- `run::report::report_row` meets its contract: the numbers asked for are those of the row's line.
 use mathlib.Core.Path.{◌∙◌}
 use native.Mathlib.Omega.{arith}
-use borrow.Author.Rules.{rules}
 use mir.Facts.{to_z-of_z}
 use mir.Syntax.{w64}
 use Rattle.run.proofs.RowsLaws.{row_text_lem}

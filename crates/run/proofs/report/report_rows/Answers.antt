@@ -1,10 +1,7 @@
-use mathlib.Core.Path.{◌≡◌, refl, sym, ◌∙◌}
-use Prim.Native.Nat.{◌-◌, ◌≤◌}
+use mathlib.Core.Path.{refl, sym, ◌∙◌}
 use native.Mathlib.Omega.{arith}
-use lib.ListN.{length}
 use borrow.Author.Rules.{rules}
-use Rattle.run.specs.Reporting.{report_from}
-use Rattle.run.proofs.AsFarLaws.{Leads, leads_on, leads_out, leads_end}
+use Rattle.run.proofs.AsFarLaws.{leads_on, leads_out, leads_end}
 use Rattle.run.proofs.RowsLaws.{leads_rows, leads_row, leads_none}
 use Rattle.run.proofs.report.report_rows.Goals as goal
 
@@ -16,12 +13,11 @@ returns-in_default c =
     leads_out (leads_row c.args.p c.loop-s.s (omega arith) c.loop-s.invariant.1) (sym c.in_default.is ∙ c.report_row.ensures.0) c.report_row.ensures.1
 
 pub loop-s-preserved : goal.loop-s-preserved
-loop-s-preserved c =
-    (
-      omega arith,
-      leads_on (leads_row c.args.p c.loop-s.s (omega arith) c.loop-s.invariant.1) (sym c.in-Fill.is ∙ c.report_row.ensures.0) c.report_row.ensures.1,
-      search rules,
-    )
+loop-s-preserved c = (
+  omega arith,
+  leads_on (leads_row c.args.p c.loop-s.s (omega arith) c.loop-s.invariant.1) (sym c.in-Fill.is ∙ c.report_row.ensures.0) c.report_row.ensures.1,
+  search rules,
+)
 
 pub returns : goal.returns
 returns c =

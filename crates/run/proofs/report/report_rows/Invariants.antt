@@ -1,12 +1,9 @@
 -- `run::report::report_rows` meets its contract. The loop's invariant: the rows that are left lead from here to what all rows give.
-use mathlib.Core.Path.{◌≡◌, refl, sym, ◌∙◌}
+use mathlib.Core.Path.{◌≡◌}
 use Prim.Native.Nat.{◌-◌, ◌≤◌}
-use native.Mathlib.Omega.{arith}
 use lib.ListN.{length}
-use borrow.Author.Rules.{rules}
 use Rattle.run.specs.Reporting.{report_from}
-use Rattle.run.proofs.AsFarLaws.{Leads, leads_on, leads_out, leads_end}
-use Rattle.run.proofs.RowsLaws.{leads_rows, leads_row, leads_none}
+use Rattle.run.proofs.AsFarLaws.{Leads}
 use Rattle.run.proofs.report.report_rows.Given as goal
 
 abbrev pub invariant-loop-s : goal.invariant-loop-s

@@ -2,7 +2,6 @@
 use mathlib.Core.Path.{sym}
 use native.Mathlib.Omega.{arith}
 use borrow.Author.Tests.{le-leb, lt-leb}
-use borrow.Author.Rules.{rules}
 use Rattle.run.specs.Stream.{is_going}
 use Rattle.run.specs.Fed.{at_of, taken_of, nothing, line_start}
 use Rattle.run.proofs.TakenLines.{answer_over, answer_none, answer_room}

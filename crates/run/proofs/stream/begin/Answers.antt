@@ -1,6 +1,5 @@
 -- `run::stream::begin` meets its contract: the fresh state, line 1, nothing kept.
 use mathlib.Core.Path.{ap, ◌∙◌}
-use borrow.Author.Rules.{rules}
 use Rattle.run.specs.Fed.{line_start}
 use Rattle.run.specs.Stream.{start}
 use Rattle.run.proofs.stream.begin.Goals as goal

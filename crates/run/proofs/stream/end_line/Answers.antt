@@ -4,7 +4,6 @@ use Prim.Native.Nat.{◌≤◌}
 use native.Mathlib.Omega.{arith}
 use lib.ListN.{length, length-take}
 use lib.Seq.{length-take-le}
-use borrow.Author.Rules.{rules}
 use Rattle.run.specs.Fed.{kept_of, at_of}
 use Rattle.run.proofs.KeptBytes.{take_length_take, none_of}
 use Rattle.run.proofs.WholeLines.{end_there, end_kept}

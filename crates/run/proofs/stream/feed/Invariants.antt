@@ -1,14 +1,11 @@
 -- `run::stream::feed` meets its contract. The loop's invariant: what is left of the piece, taken from here, gives what the whole piece gives; the state
 -- is legal, and the buffer keeps its length. The measure is what is left of the piece: a turn is the quick way as far as it goes, and one line more.
-use mathlib.Core.Path.{◌≡◌, refl, ◌∙◌}
-use Prim.Native.Nat.{◌+◌, ◌-◌, ◌≤◌}
-use native.Mathlib.Omega.{arith}
-use lib.ListN.{length, drop, length-drop}
+use mathlib.Core.Path.{◌≡◌}
+use Prim.Native.Nat.{◌-◌, ◌≤◌}
+use lib.ListN.{length}
 use Rattle.plan.specs.declared.Plan.{Plan}
 use Rattle.step.specs.Lent.{Lent}
-use Rattle.line.proofs.Parts.{to_end}
-use Rattle.run.specs.Fed.{line_taken, first_line, at_of, taken_of, from_place, piece_taken}
-use Rattle.run.proofs.LineLoop.{place_start, place_end, place_on, place_stop, turn_lent}
+use Rattle.run.specs.Fed.{at_of, from_place, piece_taken}
 use Rattle.run.proofs.stream.feed.Given as goal
 
 abbrev pub invariant-loop-at : goal.invariant-loop-at

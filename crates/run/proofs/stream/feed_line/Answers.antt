@@ -5,7 +5,6 @@ use native.Mathlib.Nat.{zero-add}
 use native.Mathlib.Omega.{arith}
 use lib.ListN.{length, take, length-take}
 use lib.Seq.{length-take-le}
-use borrow.Author.Rules.{rules}
 use Rattle.text.specs.Lines.{line_feed, until}
 use Rattle.text.proofs.Until.{until_le}
 use Rattle.text.proofs.Parted.{whole}

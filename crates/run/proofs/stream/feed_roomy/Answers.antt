@@ -1,18 +1,12 @@
 use mathlib.Core.Path.{◌≡◌, refl, ap, ◌∙◌}
-use mathlib.Core.List.{List}
-use Prim.Native.Nat.{ℕ, ◌+◌, ◌-◌, ◌≤◌, ◌<◌}
+use Prim.Native.Nat.{◌+◌}
 use native.Mathlib.Omega.{arith}
 use lib.ListN.{length, drop}
 use borrow.Author.Rules.{rules}
-use Rattle.text.specs.Lines.{line_feed, until}
-use Rattle.plan.specs.declared.Plan.{Plan}
 use Rattle.state.specs.declared.State.{State}
 use Rattle.state.specs.Lent.{state_with}
-use Rattle.step.specs.Lent.{Lent}
-use Rattle.line.specs.Run.{most_lines}
-use Rattle.run.specs.Lined.{LinePut}
 use Rattle.run.specs.Stream.{At}
-use Rattle.run.specs.Fed.{at_of, first_line, from_place, line_start}
+use Rattle.run.specs.Fed.{at_of, first_line, line_start}
 use Rattle.run.proofs.PutLines.{first_lent}
 use Rattle.run.proofs.RoomyLines.{at_start, feed_there, line_ends, place_line, put_lent}
 use Rattle.run.proofs.stream.feed_roomy.Goals as goal
@@ -61,8 +55,7 @@ loop-end-preserved c =
 pub returns : goal.returns
 unfolding at_of line_start
 returns c =
-    let l = c.loop-end in
-    (
+    let l = c.loop-end in (
       l.invariant.0,
       record { taken = l.invariant.1; filled = l.invariant.4 },
       λ p k. (

@@ -1,22 +1,13 @@
 -- `run::stream::feed_roomy` meets its contract. The loop's invariant: what is left of the piece, taken from here, gives what it gives from the first place
 -- on; end is the next line feed, the state is legal, and the buffer keeps its length. The measure is what is left of the piece.
-use mathlib.Core.Path.{◌≡◌, refl, ap, ◌∙◌}
-use mathlib.Core.List.{List}
-use Prim.Native.Nat.{ℕ, ◌+◌, ◌-◌, ◌≤◌, ◌<◌}
-use native.Mathlib.Omega.{arith}
+use mathlib.Core.Path.{◌≡◌}
+use Prim.Native.Nat.{◌+◌, ◌-◌, ◌≤◌}
 use lib.ListN.{length, drop}
-use borrow.Author.Rules.{rules}
 use Rattle.text.specs.Lines.{line_feed, until}
 use Rattle.plan.specs.declared.Plan.{Plan}
-use Rattle.state.specs.declared.State.{State}
 use Rattle.state.specs.Lent.{state_with}
 use Rattle.step.specs.Lent.{Lent}
-use Rattle.line.specs.Run.{most_lines}
-use Rattle.run.specs.Lined.{LinePut}
-use Rattle.run.specs.Stream.{At}
-use Rattle.run.specs.Fed.{at_of, first_line, from_place, line_start}
-use Rattle.run.proofs.PutLines.{first_lent}
-use Rattle.run.proofs.RoomyLines.{at_start, feed_there, line_ends, place_line, put_lent}
+use Rattle.run.specs.Fed.{from_place, line_start}
 use Rattle.run.proofs.stream.feed_roomy.Given as goal
 
 abbrev pub invariant-loop-end : goal.invariant-loop-end

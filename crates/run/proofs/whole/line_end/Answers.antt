@@ -2,7 +2,6 @@
 use mathlib.Core.Path.{ap}
 use native.Mathlib.Omega.{arith}
 use lib.ListN.{length, drop, length-drop}
-use borrow.Author.Rules.{rules}
 use Rattle.text.specs.Lines.{line_feed}
 use Rattle.text.proofs.Until.{until_le}
 use Rattle.run.proofs.FirstLines.{first_length, first_whole}

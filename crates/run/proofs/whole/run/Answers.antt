@@ -1,5 +1,4 @@
 -- `run::whole::run` meets its contract: the reader's plan is accepted, so that its fresh state is legal; or it is refused.
-use borrow.Author.Rules.{rules}
 use Rattle.run.proofs.Starting.{refused_lines, accepted_lines, accepted_lent}
 use Rattle.run.proofs.whole.run.Goals as goal
 

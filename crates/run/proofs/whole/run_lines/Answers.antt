@@ -1,18 +1,15 @@
 use mathlib.Core.Path.{◌≡◌, refl}
-use Prim.Native.Nat.{◌-◌, ◌≤◌}
+use Prim.Native.Nat.{◌≤◌}
 use native.Mathlib.Omega.{arith}
-use lib.ListN.{length, take, drop, length-drop}
+use lib.ListN.{length, drop, length-drop}
 use borrow.Author.Rules.{rules}
-use Rattle.text.specs.Lines.{lines}
 use Rattle.plan.specs.declared.Plan.{Plan}
 use Rattle.step.specs.Lent.{Lent}
-use Rattle.line.specs.Run.{most_lines, outcomes}
 use Rattle.run.specs.Lined.{lined, lined_out}
 use Rattle.run.specs.Fed.{first_line}
-use Rattle.run.specs.Running.{printed_lines}
-use Rattle.run.proofs.AsFarLaws.{Leads, leads_end}
+use Rattle.run.proofs.AsFarLaws.{leads_end}
 use Rattle.run.proofs.FirstLines.{first_some, first_within}
-use Rattle.run.proofs.PutLines.{lines_left, left_start, left_end, left_over, turn_room, turn_none, turn_legal, first_lent}
+use Rattle.run.proofs.PutLines.{left_start, left_end, left_over, turn_room, turn_none, turn_legal, first_lent}
 use Rattle.run.proofs.whole.run_lines.Goals as goal
 use Rattle.run.proofs.whole.run_lines.Goals.{After-line_end-end, After-line_step-l}
 

@@ -1,20 +1,15 @@
 -- `run::whole::run_lines` meets its contract. The loop's invariant: the lines that are left, put from here, give what all of them give; the state is
 -- legal, and the buffer keeps its length. The measure is what is left of the text.
-use mathlib.Core.Path.{◌≡◌, refl}
+use mathlib.Core.Path.{◌≡◌}
 use Prim.Native.Nat.{◌-◌, ◌≤◌}
-use native.Mathlib.Omega.{arith}
-use lib.ListN.{length, take, drop, length-drop}
-use borrow.Author.Rules.{rules}
+use lib.ListN.{length, take, drop}
 use Rattle.text.specs.Lines.{lines}
 use Rattle.plan.specs.declared.Plan.{Plan}
 use Rattle.step.specs.Lent.{Lent}
 use Rattle.line.specs.Run.{most_lines, outcomes}
-use Rattle.run.specs.Lined.{lined, lined_out}
-use Rattle.run.specs.Fed.{first_line}
 use Rattle.run.specs.Running.{printed_lines}
-use Rattle.run.proofs.AsFarLaws.{Leads, leads_end}
-use Rattle.run.proofs.FirstLines.{first_some, first_within}
-use Rattle.run.proofs.PutLines.{lines_left, left_start, left_end, left_over, turn_room, turn_none, turn_legal, first_lent}
+use Rattle.run.proofs.AsFarLaws.{Leads}
+use Rattle.run.proofs.PutLines.{lines_left}
 use Rattle.run.proofs.whole.run_lines.Given as goal
 
 abbrev pub invariant-loop-at : goal.invariant-loop-at
