@@ -13,8 +13,7 @@ use step::rows_with;
 
 // A plan text to its block. 34 where the block has another length than 1,108 bytes; otherwise 0 and the block, or the refusal with the
 // block as it was. The number beside is part of the answer, and kept only with 34.
-#[unsafe(no_mangle)]
-pub extern "C" fn skrzypolot_read(text: &[u8], block: &mut [u8], beside: &mut u32) -> u32
+pub fn skrzypolot_read(text: &[u8], block: &mut [u8], beside: &mut u32) -> u32
     ensures { read_left result block.new beside.new ≡ read_call text.now block.old beside.old }
 {
     if block.len() != 1108 {
@@ -33,8 +32,7 @@ pub extern "C" fn skrzypolot_read(text: &[u8], block: &mut [u8], beside: &mut u3
 }
 
 // The margin of a row of a plan text: 0 and the margin, or a refusal with the number beside it in the margin's place.
-#[unsafe(no_mangle)]
-pub extern "C" fn skrzypolot_margin(text: &[u8], row: u32, margin: &mut i64) -> u32
+pub fn skrzypolot_margin(text: &[u8], row: u32, margin: &mut i64) -> u32
     ensures { margin_left result margin.new ≡ margin_call text.now row }
 {
     let a = reader::ask(text, row);
@@ -44,8 +42,7 @@ pub extern "C" fn skrzypolot_margin(text: &[u8], row: u32, margin: &mut i64) -> 
 
 // The image of the state that a run of the block's plan starts in. 34 where a buffer has the wrong length, 31 where no accepted plan has the
 // block; both keep the image.
-#[unsafe(no_mangle)]
-pub extern "C" fn skrzypolot_fresh(block: &[u8], image: &mut [u8]) -> u32
+pub fn skrzypolot_fresh(block: &[u8], image: &mut [u8]) -> u32
     ensures { fresh_left result image.new ≡ fresh_call block.now image.old }
 {
     if image.len() != 320 {
@@ -62,8 +59,7 @@ pub extern "C" fn skrzypolot_fresh(block: &[u8], image: &mut [u8]) -> u32
 
 // An event on the state that the image writes. 34, 31 and 32 keep everything, the numbers behind pointers too; any answer of the event
 // fills all of them, a refusal with the image as it was.
-#[unsafe(no_mangle)]
-pub extern "C" fn skrzypolot_step(
+pub fn skrzypolot_step(
     block: &[u8],
     image: &mut [u8],
     kind: u32,
@@ -94,8 +90,7 @@ pub extern "C" fn skrzypolot_step(
 
 // One event line on the state that the image writes, its printed line written behind the fill, which moves on. 34, 31, 32 and 33 keep
 // everything. No printed line is empty, so that a fill that stays means 33.
-#[unsafe(no_mangle)]
-pub extern "C" fn skrzypolot_line(
+pub fn skrzypolot_line(
     block: &[u8],
     image: &mut [u8],
     number: u32,
