@@ -4,8 +4,8 @@ use Rattle.std.specs.Counts.{IsPrefixLen}
 use Rattle.skrzypolot.specs.Went.{Running}
 use Rattle.skrzypolot.proofs.events.run_pieces.Given as goal
 
-abbrev pub invariant-loop-g : goal.invariant-loop-g
-invariant-loop-g l =
+abbrev pub invariant-loop-turns : goal.invariant-loop-turns
+invariant-loop-turns l =
     IsPrefixLen l.g.count l.piece
     × (l.g.fill ≤ length l.out)
     × (length l.piece ≡ length l.initial.piece)
@@ -13,5 +13,5 @@ invariant-loop-g l =
     × (128 ≤ length l.out)
     × Running l.g.stream.state l.fn.rows l.fn.lengths
 
-abbrev pub decreases-loop-g : goal.decreases-loop-g
-decreases-loop-g l = l.turns
+abbrev pub decreases-loop-turns : goal.decreases-loop-turns
+decreases-loop-turns l = l.turns
