@@ -1,13 +1,12 @@
 -- The loop begins where the run stands, each turn keeps its state legal, and an empty buffer takes some.
-use Rattle.std.proofs.Common.{◌≡◌, ◌+◌, ◌≤◌, ◌<◌, ℕ, length, take, drop, refl, ◌∙◌, arith, rules, length-drop}
-use mathlib.Core.Bool.{true≢false}
+use Rattle.std.proofs.Common.{◌≡◌, ◌+◌, ◌≤◌, ◌<◌, ℕ, length, drop, refl, ◌∙◌, arith, length-drop}
 use Rattle.line.proofs.Parts.{to_end}
 use Rattle.plan.specs.declared.Plan.{Plan}
 use Rattle.run.specs.Fed.{at_of, taken_of, piece_taken}
 use Rattle.run.proofs.RoomTakes.{takes_some}
 use Rattle.step.specs.Lent.{Lent}
 use Rattle.skrzypolot.proofs.Through.{went_start, turn_stays, went_on, went_none, went_all}
-use Rattle.skrzypolot.specs.Went.{Running, Went}
+use Rattle.skrzypolot.specs.Went.{Running}
 use Rattle.skrzypolot.proofs.pieces.answer_piece.Goals as goal
 use Rattle.skrzypolot.proofs.pieces.answer_piece.Goals.{After-feed-f}
 
