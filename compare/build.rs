@@ -1,4 +1,4 @@
-//! Links the proved static library, which `rt staticlib host` writes.
+//! Links the proved static library, which `tools/built` writes.
 
 use std::path::Path;
 
@@ -7,7 +7,7 @@ fn main() {
     let library = folder.join("libhost.a");
     assert!(
         library.exists(),
-        "no static library: run `rt staticlib host` first"
+        "no static library: run `tools/built` first"
     );
     println!("cargo:rerun-if-changed={}", library.display());
     println!("cargo:rustc-link-search=native={}", folder.display());

@@ -16,12 +16,12 @@ use support::plans::plan;
 use support::random::{cases, each_case, Random};
 use support::vectors::file as vector;
 
-/// A program that `rt check` or `rt ci` has written.
+/// A program that `tools/built` has written.
 fn program(name: &str) -> PathBuf {
     let path = Path::new(env!("CARGO_MANIFEST_DIR"))
         .join("../target/bin")
         .join(name);
-    assert!(path.exists(), "no {}: run `rt check` first", path.display());
+    assert!(path.exists(), "no {}: run `tools/built` first", path.display());
     path
 }
 

@@ -1,7 +1,7 @@
 //! The proved library beside the second program on the same bytes, in one run: nanoseconds a call and their ratio.
 //!
 //! Each line is the quickest of several rounds, the two taking turns, so that a busy moment of the machine hits both. A ratio below 1 means
-//! that the proved code is quicker. It needs the static library, the programs of `rt check` and the second program built for release.
+//! that the proved code is quicker. It needs the static library and the programs of `tools/built`, and the second program built for release.
 
 use second::block::to_block;
 use second::event::Event;
@@ -157,7 +157,7 @@ fn bench_margins(name: &str, text: &str) {
     );
 }
 
-/// A program that `rt check` has written.
+/// A program that `tools/built` has written.
 fn program(name: &str) -> PathBuf {
     Path::new(env!("CARGO_MANIFEST_DIR"))
         .join("../target/bin")
