@@ -5,7 +5,6 @@ use lib.ListN.{length}
 use Rattle.image.specs.Image.{image_bytes, image_of}
 use Rattle.host.specs.Fresh.{fresh_left}
 use Rattle.host.proofs.FreshLaws.{image_filled, image_short, block_refused_lem, block_taken}
-use borrow.Author.Rules.{rules}
 use Rattle.host.proofs.skrzypolot_fresh.Goals as goal
 
 pub returns-then-image-ne320 : goal.returns-then-image-ne320

@@ -3,7 +3,6 @@ use native.Mathlib.Omega.{arith}
 use Rattle.host.proofs.OpenLaws.{refused_number, opens}
 use Rattle.host.proofs.StepLaws.{opened_lent}
 use Rattle.host.proofs.LineLaws.{line_refused, line_none, line_done_lem}
-use borrow.Author.Rules.{rules}
 use Rattle.host.proofs.skrzypolot_line.Goals as goal
 
 pub returns-then-x-ne0 : goal.returns-then-x-ne0

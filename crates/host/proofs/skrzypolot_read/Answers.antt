@@ -2,9 +2,7 @@ use mathlib.Core.Path.{◌≡◌, sym, ◌∙◌}
 use lib.ListN.{length}
 use Rattle.image.specs.Block.{block_bytes}
 use native.Mathlib.Omega.{arith}
-use borrow.Author.Tests.{not-true, not-false}
 use Rattle.host.proofs.ReadLaws.{filled, wrong_length, refused, accepted}
-use borrow.Author.Rules.{rules}
 use Rattle.host.proofs.skrzypolot_read.Goals as goal
 
 pub returns-then-block-ne1108 : goal.returns-then-block-ne1108

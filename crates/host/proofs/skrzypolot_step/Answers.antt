@@ -2,7 +2,6 @@
 use native.Mathlib.Omega.{arith}
 use Rattle.host.proofs.OpenLaws.{refused_number, opens}
 use Rattle.host.proofs.StepLaws.{opened_lent, step_refused, step_done}
-use borrow.Author.Rules.{rules}
 use Rattle.host.proofs.skrzypolot_step.Goals as goal
 
 pub returns-then-x-ne0 : goal.returns-then-x-ne0
