@@ -6,3 +6,4 @@ pub mod Listed
 pub mod Loops
 pub mod Entries
 pub mod Least
+pub mod Chains

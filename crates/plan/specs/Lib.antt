@@ -5,3 +5,4 @@ pub mod Admission
 pub mod Accepted
 pub mod Facts
 pub mod Lent
+pub mod Ceiled

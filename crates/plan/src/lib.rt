@@ -11,6 +11,7 @@ ghost use Rattle.plan.specs.Lent.{rows_fit, uses_fit};
 mod admission;
 mod ceiling;
 mod rows;
+mod says;
 pub mod tables;
 mod uses;
 
@@ -31,6 +32,13 @@ pub struct Plan {
     pub owners: [u8; 32],
     pub kinds: [u8; 16],
     pub lengths: [u16; 512],
+}
+
+// A plan with the ceilings of its resources, worked out once.
+#[derive(Clone, Copy)]
+pub struct CeiledPlan {
+    pub plan: Plan,
+    pub ceilings: [u8; 16],
 }
 
 // "Ceilings" of all resources, by their rows.

@@ -1,0 +1,77 @@
+-- What `all`, `any`, `find`, `sum` and `max` answer over a range from 0, in the words of specs/Below.
+use Rattle.std.proofs.Common.{◌≡◌, ℕ, zero, suc, ◌<◌, ◌≤◌, List, [], ◌∷◌, ◌++◌, map, Bool, true, false, ◌&&◌, ◌||◌, refl, sym, ap, subst, ◌∙◌, arith, add-one}
+use mathlib.Core.List.{map-id}
+use mathlib.Core.Bool.{and-true, or-false}
+use Prim.Native.Nat.{max}
+use Rattle.std.specs.List.{range_with_len, list_all, list_any, fold, sum_by, reduce}
+use Rattle.std.specs.Option.{unwrap_or, MatchOption}
+use Rattle.std.specs.Prelude.{Option, Some, None}
+use Rattle.std.proofs.lemmas.List.FromFn.{map-range_with_len_more}
+use Rattle.std.proofs.lemmas.List.Folds.{list_all-append, list_any-append}
+use Rattle.std.proofs.lemmas.List.Sums.{fold-append, sum_by-append}
+use Rattle.below.specs.Below.{all, any, first, greatest, sum}
+use Rattle.std.proofs.lemmas.Iterator.{YieldsList, YieldsList-from_range, YieldsList-from_map, first_from_Range, maps}
+use Rattle.std.proofs.lemmas.Iterator.Search.{all_from_yields_List, any_from_yields_List, find_from_yields_List}
+use Rattle.std.specs.Iterator.{YieldsThen}
+use Rattle.std.specs.List.{FoldsTo}
+use Rattle.std.specs.Fn.{Called, CalledAt}
+use Rattle.std.proofs.iter.Yields.{nat_range_steps}
+use Rattle.std.specs.Option.{option_map}
+use Rattle.std.specs.Bool.{⊤}
+use denote.Param.Members.{Mut}
+use denote.Ref.{Bor}
+use Rattle.std.specs.declared.ops.Range.{Range}
+use Rattle.below.proofs.Search.{first_is, first_absent}
+
+values_more : {X : Type 0} (f : ℕ → X) (n : ℕ) → map f (range_with_len 0 (suc n)) ≡ map f (range_with_len 0 n) ++ (f n ∷ [])
+values_more f n = ap (λ m. map f (range_with_len 0 m)) (sym (add-one n)) ∙ map-range_with_len_more f 0 n n (omega arith)
+
+numbers_more : (n : ℕ) → range_with_len 0 (suc n) ≡ range_with_len 0 n ++ (n ∷ [])
+numbers_more n = sym (map-id (range_with_len 0 (suc n))) ∙ values_more (λ k. k) n ∙ ap (λ z. z ++ (n ∷ [])) (map-id (range_with_len 0 n))
+
+pub all_numbers : (n : ℕ) (p : ℕ → Bool) → list_all p (range_with_len 0 n) ≡ all n p
+unfolding all
+all_numbers zero p = refl
+all_numbers (suc n) p = ap (list_all p) (numbers_more n) ∙ list_all-append p (range_with_len 0 n) (n ∷ []) ∙ rw (all_numbers n p) (ap (λ z. all n p && z) (and-true (p n)))
+
+pub any_numbers : (n : ℕ) (p : ℕ → Bool) → list_any p (range_with_len 0 n) ≡ any n p
+unfolding any
+any_numbers zero p = refl
+any_numbers (suc n) p = ap (list_any p) (numbers_more n) ∙ list_any-append p (range_with_len 0 n) (n ∷ []) ∙ rw (any_numbers n p) (ap (λ z. any n p || z) (or-false (p n)))
+
+pub sum_numbers : (n : ℕ) (f : ℕ → ℕ) → sum_by f (range_with_len 0 n) ≡ sum n f
+unfolding sum
+sum_numbers zero f = refl
+sum_numbers (suc n) f =
+    ap (sum_by f) (numbers_more n) ∙ sum_by-append f (range_with_len 0 n) (n ∷ []) ∙ omega (arith, sum_numbers n f)
+
+greatest_fold : (n : ℕ) (f : ℕ → ℕ) → fold max 0 (map f (range_with_len 0 n)) ≡ greatest n f
+unfolding greatest
+greatest_fold zero f = refl
+greatest_fold (suc n) f = ap (fold max 0) (values_more f n) ∙ fold-append max 0 (map f (range_with_len 0 n)) (f n ∷ []) ∙ ap (λ z. max z (f n)) (greatest_fold n f)
+
+reduce_fold : (xs : List ℕ) → unwrap_or (reduce max xs) 0 ≡ fold max 0 xs
+reduce_fold [] = refl
+reduce_fold (x ∷ xs) =
+    let e : max 0 x ≡ x = omega arith in
+    rw e
+
+pub greatest_numbers : (n : ℕ) (f : ℕ → ℕ) → unwrap_or (reduce max (map f (range_with_len 0 n))) 0 ≡ greatest n f
+greatest_numbers n f = reduce_fold (map f (range_with_len 0 n)) ∙ greatest_fold n f
+
+pub first_number : (n : ℕ) (p : ℕ → Bool) (r : Option ℕ) → MatchOption r ((k : ℕ) → 0 ≤ k → k < n → p k ≡ false) (λ i. (0 ≤ i) × (i < n) × (p i ≡ true) × ((k : ℕ) → 0 ≤ k → k < i → p k ≡ false)) → unwrap_or r n ≡ first n p
+first_number n p None h = sym (first_absent n p (λ k u. h k (omega arith) u))
+first_number n p (Some i) h = sym (first_is n p i h.1 h.2 (λ k u. h.3 k (omega arith) u))
+
+-- the answer of a call over 0..n, from what the call's contract says ran and from what the closure answers
+module _ {F : Type 0} {s : Range ℕ} (n : ℕ) where
+  pub all_over : {g : Mut F (ℕ × Unit {0}) Bool} (p : ℕ → Bool) (u : Range ℕ) (f : F) (r : Bool) → (xs : List ℕ) × (o : Option ℕ) × (j : F) × YieldsThen nat_range_steps s xs o u × FoldsTo (λ p x q. Called g p (x, tt) true q) f xs j × MatchOption o (r ≡ true) (λ x. (r ≡ false) × ((h : F) × Called g j (x, tt) false h)) → s ≡ record { start = 0; end = n } → ((x : ℕ) (b : Bool) (q : F) → Called g f (x, tt) b q → (q ≡ f) × (b ≡ p x)) → r ≡ all n p
+  all_over p u f r ran e c = all_from_yields_List p u f r ran (YieldsList-from_range 0 n n e (omega arith)) c ∙ all_numbers n p
+
+  pub any_over : {g : Mut F (ℕ × Unit {0}) Bool} (p : ℕ → Bool) (u : Range ℕ) (f : F) (r : Bool) → (xs : List ℕ) × (o : Option ℕ) × (j : F) × YieldsThen nat_range_steps s xs o u × FoldsTo (λ p x q. Called g p (x, tt) false q) f xs j × MatchOption o (r ≡ false) (λ x. (r ≡ true) × ((h : F) × Called g j (x, tt) true h)) → s ≡ record { start = 0; end = n } → ((x : ℕ) (b : Bool) (q : F) → Called g f (x, tt) b q → (q ≡ f) × (b ≡ p x)) → r ≡ any n p
+  any_over p u f r ran e c = any_from_yields_List p u f r ran (YieldsList-from_range 0 n n e (omega arith)) c ∙ any_numbers n p
+
+  pub first_over : {g : Mut F (Bor ℕ × Unit {0}) Bool} (p : ℕ → Bool) (u : Range ℕ) (f : F) (r : Option ℕ) → (xs : List ℕ) × (j : F) × YieldsThen nat_range_steps s xs r u × FoldsTo (λ p x q. CalledAt g p x false q) f xs j × MatchOption r ⊤ (λ x. (h : F) × CalledAt g j x true h) → s ≡ record { start = 0; end = n } → ((x : ℕ) (b : Bool) (q : F) → CalledAt g f x b q → (q ≡ f) × (b ≡ p x)) → unwrap_or r n ≡ first n p
+  first_over p u f r ran e c =
+      first_number n p r (subst (λ z. MatchOption r ((k : ℕ) → z.start ≤ k → k < z.end → p k ≡ false) (λ i. (z.start ≤ i) × (i < z.end) × (p i ≡ true) × ((k : ℕ) → z.start ≤ k → k < i → p k ≡ false))) e
+      (first_from_Range s u f r (λ k. p k ≡ true) (λ k. p k ≡ false) ran (λ x q k. sym (c x true q k).1) (λ x q k. ((c x false q k).0, sym (c x false q k).1))))

@@ -1,0 +1,107 @@
+// One task: what it holds, and the task with one thing changed. A place that is not there reads 255, as the definitions read it.
+ghost use Rattle.std.specs.Prelude.{◌≡◌, ◌<◌};
+ghost use Rattle.state.specs.State.{idle_task, held_at, holds, last_held, in_section};
+ghost use Rattle.state.specs.Update.{readied, started, waiting_for, taking, giving_back};
+
+use crate::Task;
+use plan::Plan;
+
+impl Task {
+    // How an idle and an absent task look.
+    pub fn idle() -> Task
+        ensures { result ≡ idle_task }
+    {
+        Task {
+            condition: 0,
+            waits: 255,
+            count: 0,
+            held: [255; 4],
+        }
+    }
+
+    // The i-th resource that it took.
+    pub fn held_at(&self, i: u8) -> u8
+        ensures { result ≡ held_at self.now i }
+    {
+        self.held.get(i as usize).copied().unwrap_or(255)
+    }
+
+    // The resource that it took last.
+    pub fn last_held(&self) -> u8
+        ensures { result ≡ last_held self.now }
+    {
+        self.held_at(self.count.saturating_sub(1))
+    }
+
+    // Whether a resource is among those that it holds.
+    pub fn holds(&self, r: u8) -> bool
+        ensures { result ≡ holds self.now r }
+    {
+        (0..self.count).any(|i| self.held_at(i) == r)
+    }
+
+    // It holds a global resource, which is the last it took.
+    pub fn in_section(&self, p: &Plan) -> bool
+        ensures { result ≡ in_section p.now self.now }
+    {
+        1 <= self.count && p.is_global(self.last_held())
+    }
+
+    pub fn readied(self) -> Task
+        ensures { result ≡ readied self }
+    {
+        Task {
+            condition: 1,
+            waits: 255,
+            ..self
+        }
+    }
+
+    pub fn started(self) -> Task
+        ensures { result ≡ started self }
+    {
+        Task {
+            condition: 2,
+            waits: 255,
+            ..self
+        }
+    }
+
+    pub fn waiting_for(self, r: u8) -> Task
+        ensures { result ≡ waiting_for self r }
+    {
+        Task {
+            condition: 3,
+            waits: r,
+            ..self
+        }
+    }
+
+    // It takes a resource, and so is started. A fifth has no place. A count of 255 stays, for one more does not fit its byte.
+    pub fn taking(self, r: u8) -> Task
+        ensures { self.count < 255 → result ≡ taking self r }
+    {
+        let mut next = self;
+        if let Some(place) = next.held.get_mut(self.count as usize) {
+            *place = r;
+        }
+        Task {
+            condition: 2,
+            waits: 255,
+            count: self.count.saturating_add(1),
+            ..next
+        }
+    }
+
+    // It gives back the resource that it took last.
+    pub fn giving_back(self) -> Task
+        ensures { result ≡ giving_back self }
+    {
+        let mut next = self;
+        let count = self.count.saturating_sub(1);
+        if let Some(place) = next.held.get_mut(count as usize) {
+            *place = 255;
+        }
+        Task { count, ..next }
+    }
+}
