@@ -1,6 +1,6 @@
 -- "The run program": an event line is a name and exactly the numbers that its kind uses, written and parted as in the plan text.
 use Rattle.std.specs.Prelude.{true, false, List, [], ◌∷◌, ℕ}
-use Rattle.std.proofs.Math.Option.{none, some}
+use Rattle.std.specs.Prelude.{None, Some}
 use Rattle.text.specs.Bytes.{bytes, same}
 use Rattle.text.specs.Lines.{body, fields}
 use Rattle.text.specs.Numbers.{numbers, of_none, of_one, of_two}
@@ -31,8 +31,8 @@ of_name name ns =
 -- the first field is the name, the others are numbers
 unfoldable pub of_fields : List (List ℕ) → Event
 of_fields [] = Malformed
-of_fields (name ∷ fs) = elim (numbers fs) [ none ↦ Malformed | some ns ↦ of_name name ns ]
+of_fields (name ∷ fs) = elim (numbers fs) [ None ↦ Malformed | Some ns ↦ of_name name ns ]
 
 -- a line with its line feed; an empty line and one without its line feed are malformed
 unfoldable pub event_of : List ℕ → Event
-event_of l = elim (body l) [ none ↦ Malformed | some b ↦ of_fields (fields b) ]
+event_of l = elim (body l) [ None ↦ Malformed | Some b ↦ of_fields (fields b) ]

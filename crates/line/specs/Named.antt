@@ -1,6 +1,6 @@
 -- How an event line is read: its name to a kind, then the rows that the kind uses.
 use Rattle.std.specs.Prelude.{Bool, true, false, ◌||◌, List, ℕ, eqb}
-use Rattle.std.proofs.Math.Option.{Option, none, some}
+use Rattle.std.specs.Prelude.{Option, None, Some}
 use Rattle.text.specs.Bytes.{bytes, same}
 use Rattle.text.specs.Numbers.{number, of_none, of_one, of_two}
 use Rattle.text.specs.declared.Number.TheVariants.{Written, Nothing}
@@ -47,8 +47,8 @@ of_kind kind ns =
 
 -- what is made of the numbers, if each field writes one
 unfoldable pub made : (List ℕ → Event) → Option (List ℕ) → Event
-made g none = Malformed
-made g (some ns) = g ns
+made g None = Malformed
+made g (Some ns) = g ns
 
 -- the last row is simply the rest of the line
 unfoldable pub last_row : (ℕ → Event) → List ℕ → Event

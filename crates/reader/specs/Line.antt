@@ -1,6 +1,6 @@
 -- "The plan text", its table: a line is a letter and its fields.
 use Rattle.std.specs.Prelude.{true, false, List, [], ◌∷◌, ℕ}
-use Rattle.std.proofs.Math.Option.{none, some}
+use Rattle.std.specs.Prelude.{None, Some}
 use Rattle.text.specs.Bytes.{bytes, same}
 use Rattle.text.specs.Lines.{body, fields}
 use Rattle.text.specs.Numbers.{numbers, of_one, of_two, of_three}
@@ -9,7 +9,7 @@ use Rattle.reader.specs.declared.Line.TheVariants.{Subsystem, Task, Resource, Us
 
 -- made of the numbers that the fields write; malformed where a field writes none
 unfoldable pub of_numbers : (List ℕ → Line) → List (List ℕ) → Line
-of_numbers f fs = elim (numbers fs) [ none ↦ Malformed | some ns ↦ f ns ]
+of_numbers f fs = elim (numbers fs) [ None ↦ Malformed | Some ns ↦ f ns ]
 
 -- R: L is local, G global
 unfoldable pub of_kind : List ℕ → Line
@@ -41,7 +41,7 @@ of_fields (k ∷ fs) =
 
 -- a line with its line feed; an empty line and one without its line feed are malformed
 unfoldable pub line_of : List ℕ → Line
-line_of l = elim (body l) [ none ↦ Malformed | some b ↦ of_fields (fields b) ]
+line_of l = elim (body l) [ None ↦ Malformed | Some b ↦ of_fields (fields b) ]
 
 -- the place of a line's kind in the order of the kinds
 unfoldable pub kind_of : Line → ℕ

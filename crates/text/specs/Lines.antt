@@ -1,6 +1,7 @@
 -- "The plan text": one record a line, fields parted by one tab, each line ended by a line feed. Event files are written the same way.
 use Rattle.std.specs.Prelude.{true, false, List, [], ◌∷◌, ℕ, zero, suc, eqb}
-use Rattle.std.proofs.Math.Option.{Option, none, some, map}
+use Rattle.std.specs.Prelude.{Option, Some, None}
+use Rattle.std.specs.Option.{option_map}
 
 -- what parts fields
 abbrev pub tab : ℕ
@@ -27,13 +28,13 @@ lines (b ∷ bs) = elim (eqb b line_feed) [ true ↦ (b ∷ []) ∷ lines bs | f
 
 -- nothing may follow the line feed
 unfoldable pub empty_or_none : List ℕ → Option (List ℕ)
-empty_or_none [] = some []
-empty_or_none (b ∷ bs) = none
+empty_or_none [] = Some []
+empty_or_none (b ∷ bs) = None
 
 -- what stands before the line feed, where it is the last byte and the only line feed
 unfoldable pub body : List ℕ → Option (List ℕ)
-body [] = none
-body (b ∷ bs) = elim (eqb b line_feed) [ true ↦ empty_or_none bs | false ↦ map (λ l. b ∷ l) (body bs) ]
+body [] = None
+body (b ∷ bs) = elim (eqb b line_feed) [ true ↦ empty_or_none bs | false ↦ option_map (λ l. b ∷ l) (body bs) ]
 
 -- the fields of a line's body: what stands between its tabs
 unfoldable pub fields : List ℕ → List (List ℕ)

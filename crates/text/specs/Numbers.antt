@@ -1,8 +1,7 @@
 -- "The plan text": a number has 1 to 5 digits and no leading zero, 0 itself being one digit. And numbers as printed.
 use Rattle.std.specs.Prelude.{Bool, true, false, not, ◌&&◌, ◌||◌, List, [], ◌∷◌, ℕ, zero, suc, ◌+◌, ◌-◌, ◌*◌, ◌/◌, ◌%◌, leb, ltb, eqb, length, get_or}
-use Rattle.std.proofs.Math.Option.{Option, none, some, map}
-use Rattle.text.specs.declared.Number.{Number}
-use Rattle.text.specs.declared.Number.TheVariants.{Written, Nothing}
+use Rattle.std.specs.Prelude.{Option, Some, None}
+use Rattle.std.specs.Option.{option_map}
 
 -- a digit is one of the bytes 48 to 57
 unfoldable pub is_digit : ℕ → Bool
@@ -23,13 +22,13 @@ worth [] n = n
 worth (b ∷ bs) n = worth bs (10 * n + (b - 48))
 
 -- the number that a field writes, if it writes one
-unfoldable pub number : List ℕ → Number
-number f = elim (is_number f) [ true ↦ Written (worth f 0) | false ↦ Nothing ]
+unfoldable pub number : List ℕ → Option ℕ
+number f = elim (is_number f) [ true ↦ Some (worth f 0) | false ↦ None ]
 
 -- the numbers that some fields write, if each writes one
 unfoldable pub numbers : List (List ℕ) → Option (List ℕ)
-numbers [] = some []
-numbers (f ∷ fs) = elim (number f) [ Nothing ↦ none | Written n ↦ map (λ ns. n ∷ ns) (numbers fs) ]
+numbers [] = Some []
+numbers (f ∷ fs) = elim (number f) [ None ↦ None | Some n ↦ option_map (λ ns. n ∷ ns) (numbers fs) ]
 
 -- what is made of just as many numbers as wanted, or else the other
 module _ {A : Type 0} (other : A) where

@@ -5,13 +5,6 @@ ghost use Rattle.text.specs.Lines.{until};
 ghost use Rattle.text.specs.Numbers.{number};
 ghost use Rattle.text.specs.Digits.{behind};
 
-// What a field says.
-#[derive(Clone, Copy)]
-pub enum Number {
-    Written(u32),
-    Nothing,
-}
-
 // "The plan text": where a line or a field ends. The place of the first b at or after at, or the end.
 pub fn find(s: &[u8], at: usize, b: u8) -> usize
     ensures { result ≡ at + until b (drop at s.now) }
@@ -27,7 +20,7 @@ pub fn find(s: &[u8], at: usize, b: u8) -> usize
 }
 
 // The worth of at most 5 digits; a byte that is no digit makes it nothing.
-fn digits_of(s: &[u8]) -> Number
+fn digits_of(s: &[u8]) -> Option<u32>
     requires { length s.now ≤ 5 }
     ensures { result ≡ behind s.now 0 }
 {
@@ -36,34 +29,34 @@ fn digits_of(s: &[u8]) -> Number
     while i < s.len() {
         let b = s[i];
         if b < 48 {
-            return Number::Nothing;
+            return None;
         }
         if 57 < b {
-            return Number::Nothing;
+            return None;
         }
         let digit = b - 48;
         n = 10 * n + digit as u32;
         i += 1;
     }
-    Number::Written(n)
+    Some(n)
 }
 
 // "The plan text": a number has 1 to 5 digits and no leading zero. The length comes first, so that no text makes the worth overflow.
-pub fn number_of(s: &[u8]) -> Number
+pub fn number_of(s: &[u8]) -> Option<u32>
     ensures { result ≡ number s.now }
 {
     let n = s.len();
     if n == 0 {
-        return Number::Nothing;
+        return None;
     }
     if 5 < n {
-        return Number::Nothing;
+        return None;
     }
     if n == 1 {
         return digits_of(s);
     }
     if s[0] == 48 {
-        return Number::Nothing;
+        return None;
     }
     digits_of(s)
 }
