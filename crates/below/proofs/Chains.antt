@@ -1,5 +1,5 @@
 -- What `all`, `any`, `find`, `sum` and `max` answer over a range from 0, in the words of specs/Below.
-use Rattle.std.proofs.Common.{◌≡◌, ℕ, zero, suc, ◌<◌, ◌≤◌, List, [], ◌∷◌, ◌++◌, map, Bool, true, false, ◌&&◌, ◌||◌, refl, sym, ap, subst, ◌∙◌, arith, add-one}
+use Rattle.std.proofs.Common.{◌≡◌, ℕ, zero, suc, ◌+◌, ◌-◌, ◌/◌, ◌<◌, ◌≤◌, List, [], ◌∷◌, ◌++◌, map, Bool, true, false, ◌&&◌, ◌||◌, refl, sym, ap, subst, ◌∙◌, arith, add-one}
 use mathlib.Core.List.{map-id}
 use mathlib.Core.Bool.{and-true, or-false}
 use Prim.Native.Nat.{max}
@@ -11,12 +11,18 @@ use Rattle.std.proofs.lemmas.List.Folds.{list_all-append, list_any-append}
 use Rattle.std.proofs.lemmas.List.Sums.{fold-append, sum_by-append}
 use Rattle.below.specs.Below.{all, any, first, greatest, sum}
 use Rattle.std.proofs.lemmas.Iterator.{YieldsList, YieldsList-from_range, YieldsList-from_map, first_from_Range, maps}
-use Rattle.std.proofs.lemmas.Iterator.Search.{all_from_yields_List, any_from_yields_List, find_from_yields_List}
-use Rattle.std.specs.Iterator.{YieldsThen}
-use Rattle.std.specs.List.{FoldsTo}
+use Rattle.std.proofs.lemmas.Iterator.Search.{all_from_yields_List, any_from_yields_List}
+use Rattle.std.proofs.lemmas.Iterator.{YieldsList-from_map}
+use Rattle.std.proofs.lemmas.Iterator.Adapters.{at_most_from_yields_List, fits_from_length, option_map_id}
+use Rattle.std.proofs.lemmas.Iterator.Consumers.{max_from_yields_List, sum_by_from_yields_List}
+use Rattle.std.proofs.lemmas.List.FromFn.{length-range_with_len}
+use Rattle.std.specs.Iterator.{ChecksAll, ChecksAny, FindsItem, PicksByCmp, Drains}
+use Rattle.std.specs.Iterator.Adapters.{map_source, map_callee}
+use Rattle.std.specs.Iterator.Runs.{EachRunFrom, WholeRun}
+use Rattle.std.specs.Ordering.{nat_cmp, max_by_ordering}
 use Rattle.std.specs.Fn.{Called, CalledAt}
+use Rattle.std.specs.declared.iter.Map.{Map}
 use Rattle.std.proofs.iter.Yields.{nat_range_steps}
-use Rattle.std.specs.Option.{option_map}
 use Rattle.std.specs.Bool.{⊤}
 use denote.Param.Members.{Mut}
 use denote.Ref.{Bor}
@@ -65,13 +71,42 @@ first_number n p (Some i) h = sym (first_is n p i h.1 h.2 (λ k u. h.3 k (omega 
 
 -- the answer of a call over 0..n, from what the call's contract says ran and from what the closure answers
 module _ {F : Type 0} {s : Range ℕ} (n : ℕ) where
-  pub all_over : {g : Mut F (ℕ × Unit {0}) Bool} (p : ℕ → Bool) (u : Range ℕ) (f : F) (r : Bool) → (xs : List ℕ) × (o : Option ℕ) × (j : F) × YieldsThen nat_range_steps s xs o u × FoldsTo (λ p x q. Called g p (x, tt) true q) f xs j × MatchOption o (r ≡ true) (λ x. (r ≡ false) × ((h : F) × Called g j (x, tt) false h)) → s ≡ record { start = 0; end = n } → ((x : ℕ) (b : Bool) (q : F) → Called g f (x, tt) b q → (q ≡ f) × (b ≡ p x)) → r ≡ all n p
+  pub all_over : {g : Mut F (ℕ × Unit {0}) Bool} (p : ℕ → Bool) (u : Range ℕ) (f : F) (r : Bool) → ChecksAll nat_range_steps g s f r u → s ≡ record { start = 0; end = n }
+      → ((x : ℕ) (b : Bool) (q : F) → Called g f (x, tt) b q → (q ≡ f) × (b ≡ p x)) → r ≡ all n p
   all_over p u f r ran e c = all_from_yields_List p u f r ran (YieldsList-from_range 0 n n e (omega arith)) c ∙ all_numbers n p
 
-  pub any_over : {g : Mut F (ℕ × Unit {0}) Bool} (p : ℕ → Bool) (u : Range ℕ) (f : F) (r : Bool) → (xs : List ℕ) × (o : Option ℕ) × (j : F) × YieldsThen nat_range_steps s xs o u × FoldsTo (λ p x q. Called g p (x, tt) false q) f xs j × MatchOption o (r ≡ false) (λ x. (r ≡ true) × ((h : F) × Called g j (x, tt) true h)) → s ≡ record { start = 0; end = n } → ((x : ℕ) (b : Bool) (q : F) → Called g f (x, tt) b q → (q ≡ f) × (b ≡ p x)) → r ≡ any n p
+  pub any_over : {g : Mut F (ℕ × Unit {0}) Bool} (p : ℕ → Bool) (u : Range ℕ) (f : F) (r : Bool) → ChecksAny nat_range_steps g s f r u → s ≡ record { start = 0; end = n }
+      → ((x : ℕ) (b : Bool) (q : F) → Called g f (x, tt) b q → (q ≡ f) × (b ≡ p x)) → r ≡ any n p
   any_over p u f r ran e c = any_from_yields_List p u f r ran (YieldsList-from_range 0 n n e (omega arith)) c ∙ any_numbers n p
 
-  pub first_over : {g : Mut F (Bor ℕ × Unit {0}) Bool} (p : ℕ → Bool) (u : Range ℕ) (f : F) (r : Option ℕ) → (xs : List ℕ) × (j : F) × YieldsThen nat_range_steps s xs r u × FoldsTo (λ p x q. CalledAt g p x false q) f xs j × MatchOption r ⊤ (λ x. (h : F) × CalledAt g j x true h) → s ≡ record { start = 0; end = n } → ((x : ℕ) (b : Bool) (q : F) → CalledAt g f x b q → (q ≡ f) × (b ≡ p x)) → unwrap_or r n ≡ first n p
+  pub first_over : {g : Mut F (Bor ℕ × Unit {0}) Bool} (p : ℕ → Bool) (u : Range ℕ) (f : F) (r : Option ℕ) → FindsItem nat_range_steps g s f r u → s ≡ record { start = 0; end = n }
+      → ((x : ℕ) (b : Bool) (q : F) → CalledAt g f x b q → (q ≡ f) × (b ≡ p x)) → unwrap_or r n ≡ first n p
   first_over p u f r ran e c =
       first_number n p r (subst (λ z. MatchOption r ((k : ℕ) → z.start ≤ k → k < z.end → p k ≡ false) (λ i. (z.start ≤ i) × (i < z.end) × (p i ≡ true) × ((k : ℕ) → z.start ≤ k → k < i → p k ≡ false))) e
       (first_from_Range s u f r (λ k. p k ≡ true) (λ k. p k ≡ false) ran (λ x q k. sym (c x true q k).1) (λ x q k. ((c x false q k).0, sym (c x false q k).1))))
+
+-- the same after `map`, whose closure computes h
+module _ {F : Type 0} {g : Mut F (ℕ × Unit {0}) ℕ} {m : Map (Range ℕ) F} (n : ℕ) (h : ℕ → ℕ) where
+  mapped_over : (f : F) → map_source m ≡ record { start = 0; end = n } → map_callee m ≡ f → ((x r : ℕ) (q : F) → Called g f (x, tt) r q → (q ≡ f) × (r ≡ h x))
+      → YieldsList (maps nat_range_steps g) (λ r. r) m (map h (range_with_len 0 n))
+  mapped_over f e a c = YieldsList-from_map g h (YieldsList-from_range 0 n n e (omega arith)) a c
+
+  pub greatest_over : (f : F) (r : Option ℕ) → PicksByCmp (maps nat_range_steps g) max_by_ordering nat_cmp m r → map_source m ≡ record { start = 0; end = n } → map_callee m ≡ f
+      → ((x r : ℕ) (q : F) → Called g f (x, tt) r q → (q ≡ f) × (r ≡ h x)) → unwrap_or r 0 ≡ greatest n h
+  greatest_over f r ran e a c =
+      ap (λ o. unwrap_or o 0) (sym (option_map_id r) ∙ max_from_yields_List m r ran (mapped_over f e a c)) ∙ greatest_numbers n h
+
+  pub sum_over : (f : F) (r : ℕ) → ((xs : List ℕ) × (⊤ → Drains (maps nat_range_steps g) m xs) × (r ≡ fold (λ a x. a + x) 0 xs)) → map_source m ≡ record { start = 0; end = n } → map_callee m ≡ f
+      → ((x r : ℕ) (q : F) → Called g f (x, tt) r q → (q ≡ f) × (r ≡ h x)) → r ≡ sum n h
+  sum_over f r ran e a c = sum_by_from_yields_List h (range_with_len 0 n) m r ran (mapped_over f e a c) ∙ sum_numbers n h
+
+-- the sum stays below top, of at most n values of which each is at most its nth part
+module _ {F : Type 0} {g : Mut F (ℕ × Unit {0}) ℕ} {m : Map (Range ℕ) F} (k n top : ℕ) (f : F) (e : map_source m ≡ record { start = 0; end = k }) (a : map_callee m ≡ f)
+    (l : k ≤ n) (t : 0 < top) (c : (x r : ℕ) (q : F) → Called g f (x, tt) r q → (q ≡ f) × (r ≤ (top - 1) / n)) where
+  -- for what `sum` requires
+  pub sum_fits : EachRunFrom (maps nat_range_steps g) m (λ p. fold (λ a x. a + x) 0 p.items < top)
+  sum_fits = fits_from_length g f n top (at_most_from_yields_List (YieldsList-from_range 0 k k e (omega arith)) (rw length-range_with_len l)) a t c
+
+  -- for its answer
+  pub sum_below : (r : ℕ) → WholeRun (maps nat_range_steps g) m (λ p. r ≡ fold (λ a x. a + x) 0 p.items) → r < top
+  sum_below r run = rw run.3 (sum_fits run.0 run.0.seen run.1)

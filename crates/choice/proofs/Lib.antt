@@ -1,5 +1,5 @@
-pub mod Held
 pub mod Columns
+pub mod TaskRow
 pub mod Found
 pub mod Ready
 pub mod Sections

@@ -1,15 +1,17 @@
 -- How the loop over the tasks that bar ready ones goes on and ends.
-use mathlib.Core.Path.{◌≡◌, sym, ap, ◌∙◌}
+use Prim.Native.Nat.{min}
+use mathlib.Core.Path.{◌≡◌, refl, sym, ap, ◌∙◌}
 use mathlib.Core.Bool.{Bool, true, false, not, ◌&&◌, and-true}
-use mathlib.Core.List.{List}
 use Prim.Native.Nat.{ℕ, ◌≤◌, ◌<◌}
 use native.Mathlib.Omega.{arith}
 use lib.Dec.{ltb}
-use lib.ListN.{get_or}
-use borrow.Author.Tests.{lt-ltb, le-ltb}
+use borrow.Author.Tests.{lt-ltb, le-ltb, ltb-true, ltb-false}
 use Rattle.below.specs.Below.{all, any}
 use Rattle.below.proofs.Search.{any_of, any_absent}
+use Rattle.plan.specs.declared.CeiledPlan.{CeiledPlan}
 use Rattle.plan.specs.Limits.{no_row}
+use Rattle.plan.specs.Plan.{owner}
+use Rattle.state.specs.declared.State.{State}
 use Rattle.choice.specs.Columns.{below_held, below_held_in}
 use Rattle.choice.proofs.Columns.{below_other, below_own}
 
@@ -25,11 +27,20 @@ module _ (n k : ℕ) (kept : ℕ → Bool) (clear : ℕ → ℕ → Bool) where
       let e : k ≡ n = omega arith in
       rw (any_absent n kept (λ j v. f j (rw e v)), ← e) (g t ∙ ap (λ (b : Bool). b && all k (clear t)) (lt-ltb t no_row u))
 
--- what task k adds: nothing if it is of another subsystem, else the ceilings of what it holds
-module _ (owners kinds ceilings counts held : List ℕ) (c k low new : ℕ) where
-  pub bar_other : (get_or owners k 0 ≡ c → ⊥) → new ≡ low → (t : ℕ) → ltb t new ≡ (ltb t low && below_held_in owners kinds ceilings counts held c t k)
-  bar_other h e t = rw (e, below_other owners kinds ceilings counts held c t k h) (sym (and-true (ltb t low)))
+-- a row is below the smaller of two bounds exactly if it is below both
+pub below_min : (t a b m : ℕ) → m ≡ min a b → ltb t m ≡ (ltb t a && ltb t b)
+below_min t a b m e = go (ltb t a) (ltb t b) refl refl
+  where
+    go : (x y : Bool) → ltb t a ≡ x → ltb t b ≡ y → ltb t m ≡ (x && y)
+    go true true p q = lt-ltb t m (omega (arith, ltb-true t a p, ltb-true t b q))
+    go true false p q = le-ltb t m (omega (arith, ltb-false t b q))
+    go false y p q = le-ltb t m (omega (arith, ltb-false t a p))
 
-  pub bar_own : get_or owners k 0 ≡ c → (x : ℕ) → new ≡ x → ((t : ℕ) → ltb t x ≡ (ltb t low && below_held kinds ceilings counts held t k))
-      → (t : ℕ) → ltb t new ≡ (ltb t low && below_held_in owners kinds ceilings counts held c t k)
-  bar_own h x e f t = rw (e, below_own owners kinds ceilings counts held c t k h) (f t)
+-- what task k adds: nothing if it is of another subsystem, else the ceilings of what it holds
+module _ (c : CeiledPlan) (s : State) (d k low new : ℕ) where
+  pub bar_other : (owner c.plan k ≡ d → ⊥) → new ≡ low → (t : ℕ) → ltb t new ≡ (ltb t low && below_held_in c s d t k)
+  bar_other h e t = rw (e, below_other c s k d t h) (sym (and-true (ltb t low)))
+
+  pub bar_own : owner c.plan k ≡ d → (x : ℕ) → new ≡ x → ((t : ℕ) → ltb t x ≡ (ltb t low && below_held c s t k))
+      → (t : ℕ) → ltb t new ≡ (ltb t low && below_held_in c s d t k)
+  bar_own h x e f t = rw (e, below_own c s k d t h) (f t)

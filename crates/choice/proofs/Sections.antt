@@ -9,9 +9,11 @@ use lib.ListN.{get_or}
 use borrow.Author.Tests.{leb-true, eq-eqb, ne_eqb}
 use Rattle.below.specs.Below.{any}
 use Rattle.below.specs.Least.{least}
+use Rattle.below.proofs.Listed.{get_or_listed}
 use Rattle.below.proofs.Search.{any_of, any_agree, first_agree, first_most}
 use Rattle.plan.specs.declared.Plan.{Plan}
-use Rattle.plan.specs.Limits.{no_row}
+use Rattle.plan.specs.declared.CeiledPlan.{CeiledPlan}
+use Rattle.plan.specs.Limits.{most_resources, no_row}
 use Rattle.plan.specs.Plan.{owner, is_global, declares, level}
 use Rattle.plan.specs.Ceiling.{local_ceiling, global_ceiling, ceiling}
 use Rattle.plan.specs.Facts.{Accepted}
@@ -20,6 +22,7 @@ use Rattle.state.specs.declared.State.{State}
 use Rattle.state.specs.State.{task_at, held_at, last_held, in_section}
 use Rattle.legal.specs.Facts.{Legal, HeldLegal}
 use Rattle.choice.specs.Choice.{holds_at_ceiling, system_ceiling}
+use Rattle.choice.specs.Lent.{Lent}
 use Rattle.choice.specs.Columns.{section_ceiling}
 use Rattle.choice.proofs.Columns.{ceiling_in, ceiling_out}
 
@@ -60,38 +63,32 @@ module _ (p : Plan) (s : State) (accepted : Accepted p) (legal : Legal p s) wher
             (rw (eq-eqb (owner p k) (owner p k) refl) (last_legal k h e).declared)),
       )
 
--- the ceilings that the loop reads of a plan's and a state's columns
-abbrev pub lent_ceiling : Plan → State → List ℕ → ℕ → ℕ
-lent_ceiling p s ceilings = section_ceiling p.kinds ceilings s.counts s.held
+module _ (c : CeiledPlan) (s : State) (lent : Lent c s) where
+  pub ceiling_read : (r : ℕ) → r < c.plan.resources → get_or c.ceilings r 0 ≡ ceiling c.plan r
+  ceiling_read r h = rw lent.ceilings (get_or_listed most_resources (ceiling c.plan) r 0 (omega (arith, lent.accepted.resources_most)))
 
-module _ (p : Plan) (s : State) (ceilings : List ℕ) (accepted : Accepted p) (legal : Legal p s)
-    (of_ceilings : (r : ℕ) → r < p.resources → get_or ceilings r 0 ≡ ceiling p r) where
-  lent_in : (k : ℕ) → k < p.tasks → in_section p (task_at s k) ≡ true → lent_ceiling p s ceilings k ≡ global_ceiling p (last_held (task_at s k))
-  unfolding in_section is_global last_held held_at task_at
+  lent_in : (k : ℕ) → k < c.plan.tasks → in_section c.plan (task_at s k) ≡ true → section_ceiling c s k ≡ global_ceiling c.plan (last_held (task_at s k))
+  unfolding last_held
   lent_in k h e =
-      ceiling_in p.kinds ceilings s.counts s.held k e
-      ∙ of_ceilings (last_held (task_at s k)) (last_legal p s accepted legal k h e).there
-      ∙ ceiling_global p (last_held (task_at s k)) (section_global p (task_at s k) e)
-
-  lent_out : (k : ℕ) → in_section p (task_at s k) ≡ false → lent_ceiling p s ceilings k ≡ no_row
-  unfolding in_section is_global last_held held_at task_at
-  lent_out k e = ceiling_out p.kinds ceilings s.counts s.held k e
+      ceiling_in c s k e
+      ∙ ceiling_read (last_held (task_at s k)) (last_legal c.plan s lent.accepted lent.legal k h e).there
+      ∙ ceiling_global c.plan (last_held (task_at s k)) (section_global c.plan (task_at s k) e)
 
   -- task k holds a global whose ceiling is l
-  pub holds_at : (l k : ℕ) → l < no_row → k < p.tasks → eqb (lent_ceiling p s ceilings k) l ≡ holds_at_ceiling p s l k
+  pub holds_at : (l k : ℕ) → l < no_row → k < c.plan.tasks → eqb (section_ceiling c s k) l ≡ holds_at_ceiling c.plan s l k
   unfolding holds_at_ceiling
-  holds_at l k u h = go (in_section p (task_at s k)) refl
+  holds_at l k u h = go (in_section c.plan (task_at s k)) refl
     where
-      go : (b : Bool) → in_section p (task_at s k) ≡ b
-          → eqb (lent_ceiling p s ceilings k) l ≡ (b && eqb (global_ceiling p (last_held (task_at s k))) l)
+      go : (b : Bool) → in_section c.plan (task_at s k) ≡ b
+          → eqb (section_ceiling c s k) l ≡ (b && eqb (global_ceiling c.plan (last_held (task_at s k))) l)
       go true e = ap (λ (x : ℕ). eqb x l) (lent_in k h e)
-      go false e = ap (λ (x : ℕ). eqb x l) (lent_out k e) ∙ ne_eqb no_row l (λ q. omega arith)
+      go false e = ap (λ (x : ℕ). eqb x l) (ceiling_out c s k e) ∙ ne_eqb no_row l (λ q. omega arith)
 
-  pub system_is : least p.subsystems p.tasks (lent_ceiling p s ceilings) ≡ system_ceiling p s
+  pub system_is : least c.plan.subsystems c.plan.tasks (section_ceiling c s) ≡ system_ceiling c.plan s
   unfolding least system_ceiling
   system_is =
-      first_agree p.subsystems
-      (λ l. any p.tasks (λ k. eqb (lent_ceiling p s ceilings k) l))
-      (λ l. any p.tasks (holds_at_ceiling p s l))
-      (λ l u. any_agree p.tasks (λ k. eqb (lent_ceiling p s ceilings k) l) (holds_at_ceiling p s l)
-      (λ k h. holds_at l k (omega (arith, accepted.subsystems_most)) h))
+      first_agree c.plan.subsystems
+      (λ l. any c.plan.tasks (λ k. eqb (section_ceiling c s k) l))
+      (λ l. any c.plan.tasks (holds_at_ceiling c.plan s l))
+      (λ l u. any_agree c.plan.tasks (λ k. eqb (section_ceiling c s k) l) (holds_at_ceiling c.plan s l)
+      (λ k h. holds_at l k (omega (arith, lent.accepted.subsystems_most)) h))

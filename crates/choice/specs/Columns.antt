@@ -1,48 +1,18 @@
--- What the loops of a choice compute. They are lent columns: a contract speaks of the plan and the state that have these columns and no others, so that it
--- cites the definition that it meets. A place past a column reads as the definitions read it.
-use Rattle.std.specs.Prelude.{◌≡◌, Bool, not, ◌&&◌, ◌||◌, cond, List, [], ℕ, ◌<◌, ltb, eqb, get_or}
+-- What the parts of a choice compute, of a plan with ceilings and a state. A place that is not there reads as the definitions read it.
+use Rattle.std.specs.Prelude.{◌≡◌, Bool, not, ◌&&◌, ◌||◌, cond, ℕ, ◌<◌, ltb, eqb, get_or}
 use Rattle.below.specs.Below.{all, any, first}
 use Rattle.below.specs.Least.{least}
 use Rattle.plan.specs.declared.Plan.{Plan}
+use Rattle.plan.specs.declared.CeiledPlan.{CeiledPlan}
 use Rattle.plan.specs.Limits.{no_row}
-use Rattle.plan.specs.Plan.{is_global}
-use Rattle.state.specs.declared.BudgetLeft.{BudgetLeft}
+use Rattle.plan.specs.Plan.{owner, is_global}
 use Rattle.state.specs.declared.State.{State}
-use Rattle.state.specs.State.{task_at, has_budget, is_ready, is_waiting, is_active, held_at, last_held, in_section}
-
--- a plan of which only the kinds are read
-abbrev pub plan_of : List ℕ → Plan
-plan_of kinds =
-    record {
-      subsystems = 0;
-      tasks = 0;
-      resources = 0;
-      periods = [];
-      budgets = [];
-      owners = [];
-      kinds = kinds;
-      lengths = [];
-    }
-
--- a state of which only these are read
-abbrev pub state_of : List BudgetLeft → List ℕ → List ℕ → List ℕ → State
-state_of left conditions counts held =
-    record {
-      left = left;
-      refill = [];
-      used = [];
-      conditions = conditions;
-      waits = [];
-      counts = counts;
-      held = held;
-    }
+use Rattle.state.specs.State.{task_at, has_budget, is_ready, is_active, held_at, last_held, in_section}
+use Rattle.choice.specs.Choice.{kept_from_ready}
 
 -- the ceiling of the global that task k holds; no row if it holds none
-unfoldable pub section_ceiling : List ℕ → List ℕ → List ℕ → List ℕ → ℕ → ℕ
-section_ceiling kinds ceilings counts held k =
-    cond (in_section (plan_of kinds) (task_at (state_of [] [] counts held) k))
-    (get_or ceilings (last_held (task_at (state_of [] [] counts held) k)) 0)
-    no_row
+unfoldable pub section_ceiling : CeiledPlan → State → ℕ → ℕ
+section_ceiling c s k = cond (in_section c.plan (task_at s k)) (get_or c.ceilings (last_held (task_at s k)) 0) no_row
 
 -- the smallest of these ceilings over the first k tasks, and the first of them with it
 pub record Found (subsystems k : ℕ) (ceilings : ℕ → ℕ) (ceiling holder : ℕ) : Type 0 where
@@ -51,47 +21,29 @@ pub record Found (subsystems k : ℕ) (ceilings : ℕ → ℕ) (ceiling holder :
   pub of_none : ceiling ≡ subsystems → holder ≡ no_row
 
 -- the subsystem of task h; no row if h is none
-unfoldable pub owner_of : List ℕ → ℕ → ℕ
-owner_of owners h = cond (eqb h no_row) no_row (get_or owners h 0)
+unfoldable pub owner_of : Plan → ℕ → ℕ
+owner_of p h = cond (eqb h no_row) no_row (owner p h)
 
 -- the first subsystem below ceiling m with budget left, else that of the holder h
-unfoldable pub chosen_by : List ℕ → List BudgetLeft → ℕ → ℕ → ℕ
-chosen_by owners left m h =
-    cond (ltb (first m (has_budget (state_of left [] [] []))) m)
-    (first m (has_budget (state_of left [] [] [])))
-    (owner_of owners h)
+unfoldable pub chosen_by : Plan → State → ℕ → ℕ → ℕ
+chosen_by p s m h = cond (ltb (first m (has_budget s)) m) (first m (has_budget s)) (owner_of p h)
 
 -- the ceiling of the i-th resource that task k holds if that is local; no row otherwise
-unfoldable pub local_at : List ℕ → List ℕ → List ℕ → ℕ → ℕ → ℕ
-local_at kinds ceilings held k i =
-    cond (is_global (plan_of kinds) (held_at (task_at (state_of [] [] [] held) k) i))
-    no_row
-    (get_or ceilings (held_at (task_at (state_of [] [] [] held) k) i) 0)
+unfoldable pub local_at : CeiledPlan → State → ℕ → ℕ → ℕ
+local_at c s k i = cond (is_global c.plan (held_at (task_at s k) i)) no_row (get_or c.ceilings (held_at (task_at s k) i) 0)
 
 -- row t is below every ceiling of a local resource that task k holds
-unfoldable pub below_held : List ℕ → List ℕ → List ℕ → List ℕ → ℕ → ℕ → Bool
-below_held kinds ceilings counts held t k = all (get_or counts k 0) (λ i. ltb t (local_at kinds ceilings held k i))
+unfoldable pub below_held : CeiledPlan → State → ℕ → ℕ → Bool
+below_held c s t k = all (task_at s k).count (λ i. ltb t (local_at c s k i))
 
--- and so if k is a task of subsystem c
-unfoldable pub below_held_in : List ℕ → List ℕ → List ℕ → List ℕ → List ℕ → ℕ → ℕ → ℕ → Bool
-below_held_in owners kinds ceilings counts held c t k = not (eqb (get_or owners k 0) c) || below_held kinds ceilings counts held t k
+-- and so if k is a task of a subsystem
+unfoldable pub below_held_in : CeiledPlan → State → ℕ → ℕ → ℕ → Bool
+below_held_in c s subsystem t k = not (eqb (owner c.plan k) subsystem) || below_held c s t k
 
--- task k waits or holds a global
-unfoldable pub keeps : List ℕ → List ℕ → List ℕ → List ℕ → ℕ → Bool
-keeps kinds conditions counts held k =
-    is_waiting (task_at (state_of [] conditions [] []) k) || in_section (plan_of kinds) (task_at (state_of [] [] counts held) k)
+-- no task of a subsystem bars a ready one at row t
+abbrev pub unbarred : CeiledPlan → State → ℕ → ℕ → Bool
+unbarred c s subsystem t = not (kept_from_ready c.plan s subsystem) && all c.plan.tasks (below_held_in c s subsystem t)
 
--- and is a task of subsystem c
-unfoldable pub keeps_in : List ℕ → List ℕ → List ℕ → List ℕ → List ℕ → ℕ → ℕ → Bool
-keeps_in owners kinds conditions counts held c k = eqb (get_or owners k 0) c && keeps kinds conditions counts held k
-
--- no task of subsystem c bars a ready one at row t
-abbrev pub unbarred : ℕ → List ℕ → List ℕ → List ℕ → List ℕ → List ℕ → List ℕ → ℕ → ℕ → Bool
-unbarred tasks owners kinds ceilings conditions counts held c t =
-    not (any tasks (keeps_in owners kinds conditions counts held c)) && all tasks (below_held_in owners kinds ceilings counts held c t)
-
--- task k of subsystem c is started or waiting, or ready and below low
-unfoldable pub taken_below : List ℕ → List ℕ → ℕ → ℕ → ℕ → Bool
-taken_below owners conditions c low k =
-    eqb (get_or owners k 0) c
-    && (is_active (task_at (state_of [] conditions [] []) k) || (is_ready (task_at (state_of [] conditions [] []) k) && ltb k low))
+-- task k of a subsystem is started or waiting, or ready and below low
+unfoldable pub taken_below : Plan → State → ℕ → ℕ → ℕ → Bool
+taken_below p s subsystem low k = eqb (owner p k) subsystem && (is_active (task_at s k) || (is_ready (task_at s k) && ltb k low))

@@ -1,7 +1,7 @@
 -- An R line says local or global and nothing else.
 use mathlib.Core.Bool.{Bool, true, false}
 use mathlib.Core.List.{List, [], ◌∷◌}
-use mathlib.Core.Option.{Option, none, some}
+use Rattle.std.proofs.Common.{Option, None, Some}
 use Prim.Native.Nat.{ℕ, ◌≤◌}
 use native.Mathlib.Omega.{arith}
 use Rattle.text.specs.Bytes.{bytes, same}
@@ -17,9 +17,9 @@ kind_of_numbers : (f : List ℕ → Line) (fs : List (List ℕ)) → ((ns : List
 unfolding of_numbers kind_said
 kind_of_numbers f fs h = go (numbers fs)
   where
-    go : (o : Option (List ℕ)) → kind_said (elim o [ none ↦ Malformed | some ns ↦ f ns ]) ≤ 1
-    go none = omega arith
-    go (some ns) = h ns
+    go : (o : Option (List ℕ)) → kind_said (elim o [ None ↦ Malformed | Some ns ↦ f ns ]) ≤ 1
+    go None = omega arith
+    go (Some ns) = h ns
 
 kind_of_one : (ns : List ℕ) → kind_said (of_one Malformed Task ns) ≤ 1
 unfolding of_one kind_said
@@ -83,6 +83,6 @@ pub kind_of_line : (l : List ℕ) → kind_said (line_of l) ≤ 1
 unfolding line_of kind_said
 kind_of_line l = go (body l)
   where
-    go : (o : Option (List ℕ)) → kind_said (elim o [ none ↦ Malformed | some b ↦ of_fields (fields b) ]) ≤ 1
-    go none = omega arith
-    go (some b) = kind_of_fields (fields b)
+    go : (o : Option (List ℕ)) → kind_said (elim o [ None ↦ Malformed | Some b ↦ of_fields (fields b) ]) ≤ 1
+    go None = omega arith
+    go (Some b) = kind_of_fields (fields b)

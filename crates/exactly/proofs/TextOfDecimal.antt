@@ -9,7 +9,7 @@ use native.Mathlib.Omega.{arith}
 use lib.Dec.{eqb}
 use lib.ListN.{length, get_or}
 use borrow.Author.Tests.{lt-ltb, le-ltb, le-leb, ne_eqb}
-use Rattle.text.specs.declared.Number.TheVariants.{Written}
+use Rattle.std.proofs.Common.{Some}
 use Rattle.text.specs.Numbers.{is_digit, digits, is_number, worth, number, decimal_onto, decimal}
 use Rattle.plan.proofs.Facts.{row_there}
 
@@ -101,6 +101,6 @@ decimal_is_number : (n : ℕ) → n ≤ 99999 → is_number (decimal n) ≡ true
 decimal_is_number zero h = unfold is_number decimal decimal_onto digits is_digit in refl
 decimal_is_number (suc n) h = several n h
 
-pub decimal_number : (n : ℕ) → n ≤ 99999 → number (decimal n) ≡ Written n
+pub decimal_number : (n : ℕ) → n ≤ 99999 → number (decimal n) ≡ Some n
 unfolding number
-decimal_number n h = rw (decimal_is_number n h, number) (ap Written (decimal_worth n))
+decimal_number n h = rw (decimal_is_number n h, number) (ap Some (decimal_worth n))

@@ -2,7 +2,7 @@
 use mathlib.Core.Path.{◌≡◌, refl}
 use mathlib.Core.Bool.{false}
 use mathlib.Core.List.{List, [], ◌∷◌, ◌++◌, append-nil}
-use mathlib.Core.Option.{some}
+use Rattle.std.proofs.Common.{Some}
 use Prim.Native.Nat.{ℕ, ◌≤◌}
 use native.Mathlib.Omega.{arith}
 use lib.Dec.{eqb}
@@ -18,7 +18,7 @@ use Rattle.exactly.proofs.TextOfDecimal.{Plain, decimal_number}
 -- a text that is one line, with this body
 pub record OneLine (l b : List ℕ) : Type 0 where
   pub splits : (rest : List ℕ) → lines (l ++ rest) ≡ l ∷ lines rest
-  pub holds : body l ≡ some b
+  pub holds : body l ≡ Some b
 
 one_feed : OneLine (10 ∷ []) []
 unfolding lines body empty_or_none
@@ -75,11 +75,11 @@ line_of_lem f fs p q = rw ((one_tabbed f fs p q).holds, line_of, fields_joined f
 
 -- the numbers of one, two and three decimals
 
-numbers_more : (n : ℕ) (fs : List (List ℕ)) (ns : List ℕ) → n ≤ 99999 → numbers fs ≡ some ns → numbers (decimal n ∷ fs) ≡ some (n ∷ ns)
+numbers_more : (n : ℕ) (fs : List (List ℕ)) (ns : List ℕ) → n ≤ 99999 → numbers fs ≡ Some ns → numbers (decimal n ∷ fs) ≡ Some (n ∷ ns)
 unfolding numbers
 numbers_more n fs ns h e = rw (decimal_number n h, numbers, e)
 
-numbers_none : numbers [] ≡ some []
+numbers_none : numbers [] ≡ Some []
 unfolding numbers
 numbers_none = refl
 

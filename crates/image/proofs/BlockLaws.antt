@@ -15,10 +15,13 @@ use Rattle.text.specs.Bytes.{same}
 use Rattle.plan.specs.declared.Plan.{Plan}
 use Rattle.plan.specs.Limits.{most_subsystems, most_tasks, most_resources}
 use Rattle.plan.specs.Accepted.{accepted}
-use Rattle.image.specs.declared.Block.{Block}
+use Rattle.std.specs.Prelude.{Result, Ok, Err}
+use Rattle.image.specs.declared.Unopened.{Unopened}
+use Rattle.image.specs.declared.Unopened.TheVariants.{Length, Block}
+use Rattle.image.specs.Numbers.{number_of, number_in}
 use Rattle.image.specs.Words.{words, byte_at, word_at}
 use Rattle.image.specs.Block.{block_bytes, subsystem_words, block_of, plan_of, is_block, block_number}
-use Rattle.image.specs.BlockCalls.{block_refused, block_read}
+use Rattle.image.specs.BlockCalls.{block_read}
 use Rattle.image.proofs.Parts.{bytes_part, words_part, subsystems_part, rejoined, four}
 use Rattle.image.proofs.WordLaws.{HasWord, word_read, word_after, word_before, words_has, length_subsystem_words, periods_has, budgets_has}
 
@@ -152,25 +155,30 @@ pub is_block_lem : (b : List ℕ) → length b ≡ block_bytes → ((k : ℕ) �
 unfolding is_block
 is_block_lem b e small = ap (λ (t : Bool). accepted (plan_of b) && t) (same_block b e small)
 
-abbrev picked : Bool → Bool → ℕ
-picked long block = elim long [ false ↦ 34 | true ↦ elim block [ false ↦ 31 | true ↦ 0 ] ]
+-- what the code answers of a block, test by test
+module _ (b : List ℕ) where
+  abbrev read_by : Bool → Bool → Result Plan Unopened
+  read_by long is = elim long [ false ↦ Err Length | true ↦ elim is [ false ↦ Err Block | true ↦ Ok (plan_of b) ] ]
 
-pub number_34 : (b : List ℕ) → (length b ≡ block_bytes → ⊥) → block_number b ≡ 34
-unfolding block_number
-number_34 b h = ap (λ (long : Bool). picked long (is_block b)) (ne_eqb (length b) block_bytes h)
+  pub read_short : (length b ≡ block_bytes → ⊥) → Err Length ≡ block_read b
+  unfolding block_read
+  read_short h = sym (ap (λ (long : Bool). read_by long (is_block b)) (ne_eqb (length b) block_bytes h))
 
-pub number_31 : (b : List ℕ) → length b ≡ block_bytes → is_block b ≡ false → block_number b ≡ 31
-unfolding block_number
-number_31 b e f = ap₂ picked (eq-eqb (length b) block_bytes e) f
+  module _ (long : length b ≡ block_bytes) where
+    pub read_refused : is_block b ≡ false → Err Block ≡ block_read b
+    unfolding block_read
+    read_refused f = sym (ap₂ read_by (eq-eqb (length b) block_bytes long) f)
 
-pub number_0 : (b : List ℕ) → length b ≡ block_bytes → is_block b ≡ true → block_number b ≡ 0
-unfolding block_number
-number_0 b e t = ap₂ picked (eq-eqb (length b) block_bytes e) t
+    pub read_accepted : is_block b ≡ true → Ok (plan_of b) ≡ block_read b
+    unfolding block_read
+    read_accepted t = sym (ap₂ read_by (eq-eqb (length b) block_bytes long) t)
 
-pub read_refused : (b : List ℕ) (n : ℕ) → block_number b ≡ n → eqb n 0 ≡ false → block_refused n ≡ block_read b
-unfolding block_read
-read_refused b n e f = rw (e, f)
-
-pub read_accepted : (b : List ℕ) → block_number b ≡ 0 → ◌≡◌ {A = Block} (record { number = 0; plan = plan_of b }) (block_read b)
-unfolding block_read
-read_accepted b e = rw e
+  -- its number is the one that "Calls from C" says
+  pub read_number : number_in (block_read b) ≡ block_number b
+  unfolding block_read block_number number_in number_of
+  read_number = go (eqb (length b) block_bytes) (is_block b)
+    where
+      go : (long is : Bool) → number_in (read_by long is) ≡ elim long [ false ↦ 34 | true ↦ elim is [ false ↦ 31 | true ↦ 0 ] ]
+      go false is = refl
+      go true false = refl
+      go true true = refl

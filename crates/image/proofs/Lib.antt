@@ -1,10 +1,10 @@
 pub mod WordLaws
+pub mod Tables
 pub mod Parts
 pub mod BlockLaws
-pub mod Written
 pub mod Rows
+pub mod Written
 pub mod ImageLaws
-pub mod RowsWritten
 pub mod ImageReads
 pub mod ImageExactly
 pub mod OpenedLaws

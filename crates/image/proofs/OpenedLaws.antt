@@ -1,27 +1,25 @@
--- The ends of opening a block with an image, and what is known of a block that was read.
-use mathlib.Core.Path.{◌≡◌, refl, sym, ap, ap₂, ◌∙◌}
-use mathlib.Core.Bool.{Bool, true, false, and-false}
-use mathlib.Core.List.{List}
-use Prim.Native.Nat.{ℕ, ◌<◌}
-use native.Mathlib.Omega.{arith}
-use lib.Dec.{eqb}
-use lib.ListN.{length, get_or}
-use borrow.Author.Tests.{eq-eqb, ne_eqb}
+-- The ends of opening a block with an image, and what is known of what was read.
+use Rattle.std.proofs.Common.{◌≡◌, ℕ, ◌<◌, Bool, true, false, ◌&&◌, List, length, get_or, eqb, Result, Ok, Err, refl, sym, ap, ap₂, ◌∙◌, arith}
+use mathlib.Core.Bool.{and-false}
+use borrow.Author.Tests.{eqb-true, eq-eqb, ne_eqb}
 use Rattle.below.specs.Listed.{listed}
 use Rattle.below.proofs.Tests.{and_left}
 use Rattle.plan.specs.declared.Plan.{Plan}
+use Rattle.plan.specs.declared.CeiledPlan.{CeiledPlan}
 use Rattle.plan.specs.Accepted.{accepted}
 use Rattle.plan.specs.Ceiling.{ceiling}
+use Rattle.plan.specs.Ceiled.{ceiled}
 use Rattle.state.specs.declared.State.{State}
 use Rattle.legal.specs.Legal.{legal}
-use Rattle.image.specs.declared.Block.{Block}
+use Rattle.image.specs.declared.Unopened.{Unopened}
+use Rattle.image.specs.declared.Unopened.TheVariants.{Length, Block, Image}
 use Rattle.image.specs.declared.Opened.{Opened}
+use Rattle.image.specs.Numbers.{number_of, number_in}
 use Rattle.image.specs.Block.{block_bytes, plan_of, is_block}
-use Rattle.image.specs.BlockCalls.{block_refused, block_read}
+use Rattle.image.specs.BlockCalls.{block_read}
 use Rattle.image.specs.Image.{image_bytes, state_of, is_image}
 use Rattle.image.specs.Pads.{pads_zero}
-use Rattle.image.specs.Opening.{both_long, opened_number, opened_refused, opened}
-use Rattle.image.proofs.BlockLaws.{number_31, number_0, read_refused, read_accepted}
+use Rattle.image.specs.Opening.{both_long, opened_number, opened}
 use Rattle.image.proofs.ImageReads.{is_image_lem}
 
 -- the plan of an accepted block
@@ -29,88 +27,99 @@ pub block_accepted : (b : List ℕ) → is_block b ≡ true → accepted (plan_o
 unfolding is_block
 block_accepted b e = and_left (accepted (plan_of b)) _ e
 
--- a block of the right length was read: its number says whether it is a block, and then the plan is the block's
-module _ (b : List ℕ) (long : length b ≡ block_bytes) (r : Block) (reads : r ≡ block_read b) where
-  pub read_is : is_block b ≡ true → (r.number ≡ 0) × (r.plan ≡ plan_of b)
-  read_is t =
-      let e = reads ∙ sym (read_accepted b (number_0 b long t)) in
-      (ap (λ (x : Block). x.number) e, ap (λ (x : Block). x.plan) e)
+-- what is known of a block that was read
+pub record IsRead (b : List ℕ) (p : Plan) : Type 0 where
+  pub long : length b ≡ block_bytes
+  pub is : is_block b ≡ true
+  pub plan : p ≡ plan_of b
 
-  read_not : is_block b ≡ false → r.number ≡ 31
-  unfolding block_refused
-  read_not f = ap (λ (x : Block). x.number) (reads ∙ sym (read_refused b 31 (number_31 b long f) refl))
+pub is_read : {b : List ℕ} {p : Plan} {r : Result Plan Unopened} → r ≡ block_read b → r ≡ Ok p → IsRead b p
+unfolding block_read
+is_read {b} {p} {r} e f = go (eqb (length b) block_bytes) (is_block b) refl refl (sym e ∙ f)
+  where
+    go : (long is : Bool) → eqb (length b) block_bytes ≡ long → is_block b ≡ is
+        → ◌≡◌ {A = Result Plan Unopened} (elim long [ false ↦ Err Length | true ↦ elim is [ false ↦ Err Block | true ↦ Ok (plan_of b) ] ]) (Ok p) → IsRead b p
+    go false is x y q = cc
+    go true false x y q = cc
+    go true true x y q = record { long = eqb-true _ _ x; is = y; plan = cc }
 
-  pub refused_block : (r.number ≡ 0 → ⊥) → is_block b ≡ false
-  refused_block n = go (is_block b) refl
-    where
-      go : (t : Bool) → is_block b ≡ t → t ≡ false
-      go true e = absurd (n (read_is e).0)
-      go false e = refl
-
-  pub read_block_is : r.number ≡ 0 → is_block b ≡ true
-  read_block_is z = go (is_block b) refl
-    where
-      go : (t : Bool) → is_block b ≡ t → t ≡ true
-      go true e = refl
-      go false e = absurd (omega (arith, read_not e))
-
--- the test of the state, with the plan, the ceilings and the state that were read
-pub legal_read : (block image : List ℕ) (p : Plan) (ceilings : List ℕ) (s : State) (r : Bool) → is_block block ≡ true
-    → p ≡ plan_of block → ceilings ≡ listed 16 (ceiling p) → s ≡ state_of image
-    → (accepted p ≡ true → ceilings ≡ listed 16 (ceiling p) → r ≡ legal p s) → r ≡ legal (plan_of block) (state_of image)
-legal_read block image p ceilings s r t ep ec es f = f (ap accepted ep ∙ block_accepted block t) ec ∙ ap₂ legal ep es
-
--- an image of the right length is refused for a byte that is not 0, or for its state
-module _ (p : Plan) (image : List ℕ) (full : length image ≡ image_bytes) (small : (k : ℕ) → get_or image k 0 < 256) where
-  pub not_padded : pads_zero image ≡ false → is_image p image ≡ false
-  not_padded f = is_image_lem image full small p ∙ rw f (and-false (legal p (state_of image)))
-
-  pub not_legal : legal p (state_of image) ≡ false → is_image p image ≡ false
-  not_legal f = is_image_lem image full small p ∙ rw f
-
-  pub image_passes : pads_zero image ≡ true → legal p (state_of image) ≡ true → is_image p image ≡ true
-  image_passes z t = is_image_lem image full small p ∙ rw (t, z)
-
+-- what opening a block with an image gives, by the three tests
 module _ (block image : List ℕ) where
-  abbrev picked : Bool → Bool → Bool → ℕ
-  picked long is legal = elim long [ false ↦ 34 | true ↦ elim is [ false ↦ 31 | true ↦ elim legal [ false ↦ 32 | true ↦ 0 ] ] ]
+  abbrev chosen : Bool → Bool → Bool → Result Opened Unopened
+  chosen long is legal =
+      elim long [
+        | false ↦ Err Length
+        | true ↦ elim is [
+          | false ↦ Err Block
+          | true ↦ elim legal [ false ↦ Err Image | true ↦ Ok (record { plan = ceiled (plan_of block); state = state_of image }) ]
+        ]
+      ]
 
-  number_by : (a b c : Bool) → both_long block image ≡ a → is_block block ≡ b → is_image (plan_of block) image ≡ c → opened_number block image ≡ picked a b c
-  unfolding opened_number
-  number_by a b c p q r =
-      ap (λ (x : Bool). picked x (is_block block) (is_image (plan_of block) image)) p
-      ∙ ap₂ (λ (x y : Bool). picked a x y) q r
-
-  refuses : (n : ℕ) → opened_number block image ≡ n → eqb n 0 ≡ false → opened_refused n ≡ opened block image
+  opened_by : (a b c : Bool) → both_long block image ≡ a → is_block block ≡ b → is_image (plan_of block) image ≡ c → chosen a b c ≡ opened block image
   unfolding opened
-  refuses n e f = rw (e, f)
+  opened_by a b c p q r = sym (ap (λ (x : Bool). chosen x (is_block block) (is_image (plan_of block) image)) p ∙ ap₂ (λ (x y : Bool). chosen a x y) q r)
 
-  -- 34
-  pub short_block : (length block ≡ block_bytes → ⊥) → opened_refused 34 ≡ opened block image
+  -- its number is the one that "Calls from C" says
+  pub opened_numbered : number_in (opened block image) ≡ opened_number block image
+  unfolding opened opened_number number_in number_of
+  opened_numbered = go (both_long block image) (is_block block) (is_image (plan_of block) image)
+    where
+      go : (a b c : Bool) → number_in (chosen a b c) ≡ elim a [ false ↦ 34 | true ↦ elim b [ false ↦ 31 | true ↦ elim c [ false ↦ 32 | true ↦ 0 ] ] ]
+      go false b c = refl
+      go true false c = refl
+      go true true false = refl
+      go true true true = refl
+
+  -- an image of the wrong length, whatever the block
+  pub short_image : (length image ≡ image_bytes → ⊥) → Err Length ≡ opened block image
   unfolding both_long
-  short_block h = refuses 34 (number_by false _ _ (rw (ne_eqb (length block) block_bytes h)) refl refl) refl
+  short_image h = opened_by false _ _ (rw (ne_eqb (length image) image_bytes h) (and-false (eqb (length block) block_bytes))) refl refl
 
-  module _ (long : length block ≡ block_bytes) where
-    pub short_image : (length image ≡ image_bytes → ⊥) → opened_refused 34 ≡ opened block image
-    unfolding both_long
-    short_image h = refuses 34 (number_by false _ _ (rw (eq-eqb (length block) block_bytes long, ne_eqb (length image) image_bytes h)) refl refl) refl
+  module _ (full : length image ≡ image_bytes) where
+    -- a block that is not read
+    pub no_block : {r : Result Plan Unopened} {e : Unopened} → r ≡ block_read block → r ≡ Err e → Err e ≡ opened block image
+    unfolding block_read both_long
+    no_block {r} {e} f g = go (eqb (length block) block_bytes) (is_block block) refl refl (sym f ∙ g)
+      where
+        go : (long is : Bool) → eqb (length block) block_bytes ≡ long → is_block block ≡ is
+            → ◌≡◌ {A = Result Plan Unopened} (elim long [ false ↦ Err Length | true ↦ elim is [ false ↦ Err Block | true ↦ Ok (plan_of block) ] ]) (Err e)
+            → Err e ≡ opened block image
+        go false is x y q = let same : e ≡ Length = cc in rw same (opened_by false is _ (rw x) y refl)
+        go true false x y q = let same : e ≡ Block = cc in rw same (opened_by true false _ (rw (x, eq-eqb (length image) image_bytes full)) y refl)
+        go true true x y q = cc
 
-    module _ (full : length image ≡ image_bytes) where
+    module _ {p : Plan} (R : IsRead block p) (small : (k : ℕ) → get_or image k 0 < 256) where
       both : both_long block image ≡ true
       unfolding both_long
-      both = rw (eq-eqb (length block) block_bytes long, eq-eqb (length image) image_bytes full)
+      both = rw (eq-eqb (length block) block_bytes R.long, eq-eqb (length image) image_bytes full)
 
-      -- 31
-      pub no_block : is_block block ≡ false → opened_refused 31 ≡ opened block image
-      no_block f = refuses 31 (number_by true false _ both f refl) refl
+      no_image : is_image (plan_of block) image ≡ false → Err Image ≡ opened block image
+      no_image f = opened_by true true false both R.is f
 
-      -- 32
-      pub no_image : is_block block ≡ true → is_image (plan_of block) image ≡ false → opened_refused 32 ≡ opened block image
-      no_image t f = refuses 32 (number_by true true false both t f) refl
+      tested : {c : CeiledPlan} {s : State} {r : Bool} → c ≡ ceiled p → s ≡ state_of image
+          → (accepted c.plan ≡ true → c.ceilings ≡ listed 16 (ceiling c.plan) → r ≡ legal c.plan s) → r ≡ legal (plan_of block) (state_of image)
+      tested {c} {s} {r} ec es t =
+          let plan : c.plan ≡ plan_of block = ap (λ (x : CeiledPlan). x.plan) ec ∙ R.plan in
+          t (ap accepted plan ∙ block_accepted block R.is) (ap (λ (x : CeiledPlan). x.ceilings) ec ∙ ap (λ (x : Plan). listed 16 (ceiling x)) (sym (ap (λ (x : CeiledPlan). x.plan) ec)))
+          ∙ ap₂ legal plan es
 
-      -- 0
-      pub both_opened : (p : Plan) (ceilings : List ℕ) (s : State) → p ≡ plan_of block → ceilings ≡ listed 16 (ceiling p) → s ≡ state_of image
-          → is_block block ≡ true → is_image (plan_of block) image ≡ true
-          → ◌≡◌ {A = Opened} (record { number = 0; plan = p; ceilings = ceilings; state = s }) (opened block image)
-      unfolding opened
-      both_opened p ceilings s ep ec es t u = rw (number_by true true true both t u, ec, ep, es)
+      -- an image that has a byte that is no state's
+      pub padded : {z : Bool} → z ≡ pads_zero image → z ≡ false → Err Image ≡ opened block image
+      padded e f =
+          let no : pads_zero image ≡ false = sym e ∙ f in
+          no_image (is_image_lem image full small (plan_of block) ∙ rw no (and-false (legal (plan_of block) (state_of image))))
+
+      module _ {z : Bool} (pads : z ≡ pads_zero image) (clear : z ≡ true) {c : CeiledPlan} {s : State} {r : Bool} (ec : c ≡ ceiled p) (es : s ≡ state_of image)
+          (t : accepted c.plan ≡ true → c.ceilings ≡ listed 16 (ceiling c.plan) → r ≡ legal c.plan s) where
+        -- a state that is not legal
+        pub not_legal : r ≡ false → Err Image ≡ opened block image
+        not_legal f =
+            let no : legal (plan_of block) (state_of image) ≡ false = sym (tested ec es t) ∙ f in
+            no_image (is_image_lem image full small (plan_of block) ∙ rw no)
+
+        -- and one that is
+        pub both_opened : r ≡ true → Ok (record { plan = c; state = s }) ≡ opened block image
+        both_opened u =
+            let yes : legal (plan_of block) (state_of image) ≡ true = sym (tested ec es t) ∙ u in
+            let zero : pads_zero image ≡ true = sym pads ∙ clear in
+            rw (ec, es, R.plan) (opened_by true true true both R.is (is_image_lem image full small (plan_of block) ∙ rw (yes, zero)))

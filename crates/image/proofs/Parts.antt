@@ -13,12 +13,12 @@ use Rattle.image.specs.Block.{subsystem_words}
 
 -- sections that grow at their end
 
-words_append : (l m : List ℕ) → words (l ++ m) ≡ words l ++ words m
+pub words_append : (l m : List ℕ) → words (l ++ m) ≡ words l ++ words m
 unfolding words
 words_append [] m = refl
 words_append (n ∷ l) m = ap (λ (r : List ℕ). word n ++ r) (words_append l m) ∙ sym (append_assoc (word n) (words l) (words m))
 
-subsystem_words_append : (ps qs : List ℕ) (p q : ℕ) → length ps ≡ length qs
+pub subsystem_words_append : (ps qs : List ℕ) (p q : ℕ) → length ps ≡ length qs
     → subsystem_words (ps ++ (p ∷ [])) (qs ++ (q ∷ [])) ≡ (subsystem_words ps qs ++ word p) ++ word q
 unfolding subsystem_words word
 subsystem_words_append [] [] p q e = refl

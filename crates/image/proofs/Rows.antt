@@ -22,7 +22,7 @@ joined_one : (l : List ℕ) → joined (l ∷ []) ≡ l
 unfolding joined
 joined_one l = append-nil l
 
-joined_suc : (n : ℕ) (f : ℕ → List ℕ) → joined (listed (suc n) f) ≡ joined (listed n f) ++ f n
+pub joined_suc : (n : ℕ) (f : ℕ → List ℕ) → joined (listed (suc n) f) ≡ joined (listed n f) ++ f n
 joined_suc n f =
     ap joined (listed_suc n f)
     ∙ joined_append (listed n f) (f n ∷ [])

@@ -1,17 +1,13 @@
 -- "Calls from C": what reading and writing a plan block answer and leave.
-use Rattle.std.specs.Prelude.{cond, List, ℕ, eqb, length}
+use Rattle.std.specs.Prelude.{true, false, cond, List, ℕ, Result, Ok, Err, eqb, length}
 use Rattle.plan.specs.declared.Plan.{Plan}
-use Rattle.reader.specs.Reading.{empty_plan}
-use Rattle.image.specs.declared.Block.{Block}
-use Rattle.image.specs.Block.{block_bytes, block_number, block_of, plan_of}
+use Rattle.image.specs.declared.Unopened.{Unopened}
+use Rattle.image.specs.declared.Unopened.TheVariants.{Length, Block}
+use Rattle.image.specs.Block.{block_bytes, is_block, block_of, plan_of}
 
--- a refusal has the plan of no line
-unfoldable pub block_refused : ℕ → Block
-block_refused n = record { number = n; plan = empty_plan }
-
--- the number, and the plan where it is 0
-unfoldable pub block_read : List ℕ → Block
-block_read b = cond (eqb (block_number b) 0) (record { number = 0; plan = plan_of b }) (block_refused (block_number b))
+-- the plan of the block of an accepted plan; any other buffer is refused
+unfoldable pub block_read : List ℕ → Result Plan Unopened
+block_read b = elim (eqb (length b) block_bytes) [ false ↦ Err Length | true ↦ elim (is_block b) [ false ↦ Err Block | true ↦ Ok (plan_of b) ] ]
 
 -- a buffer of the block's length is filled with the plan's block, any other is kept
 unfoldable pub block_written : Plan → List ℕ → List ℕ

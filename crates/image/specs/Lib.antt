@@ -1,4 +1,5 @@
 pub mod Words
+pub mod Numbers
 pub mod Block
 pub mod BlockCalls
 pub mod Image

@@ -20,7 +20,7 @@ use Rattle.plan.specs.Facts.{Accepted}
 use Rattle.state.specs.declared.State.{State}
 use Rattle.state.specs.State.{task_at, held_at, last_held, in_section}
 use Rattle.legal.specs.Legal.{implies, held_legal, active_before, locals_legal, globals_legal, below_section, sections_legal}
-use Rattle.legal.specs.Lent.{below_row, below_held, first_held, ordered, apart, apart_from}
+use Rattle.legal.specs.Parts.{below_row, below_held, first_held, ordered, apart, apart_from}
 
 first_of : (a b c d : Bool) → (a && b && c && d) ≡ true → a ≡ true
 first_of true b c d e = refl

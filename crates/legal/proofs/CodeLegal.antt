@@ -18,7 +18,7 @@ use Rattle.plan.proofs.Facts.{accepted_facts}
 use Rattle.state.specs.declared.State.{State}
 use Rattle.state.specs.State.{task_at}
 use Rattle.legal.specs.Legal.{implies, counts_legal, absent_subsystem, well_written, absent_task, held_legal, section_legal, unused_legal, locals_legal, globals_legal, sections_legal, subsystem_legal, task_legal, legal}
-use Rattle.legal.specs.Lent.{counts_fit, alone_legal, task_fits, ordered, apart_from, subsystems_pass, tasks_pass, order_pass}
+use Rattle.legal.specs.Parts.{counts_fit, alone_legal, task_fits, ordered, apart_from, subsystems_pass, tasks_pass, order_pass}
 use Rattle.legal.proofs.CodeSplit.{present_rest}
 use Rattle.legal.proofs.CodeCeilings.{ordered_is, apart_from_is}
 

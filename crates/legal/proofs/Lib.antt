@@ -7,7 +7,6 @@ pub mod Replaced
 pub mod Changed
 pub mod Fresh
 pub mod TaskKept
-pub mod CodeLent
 pub mod CodeSplit
 pub mod CodeCeilings
 pub mod CodeLegal

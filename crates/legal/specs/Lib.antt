@@ -1,3 +1,3 @@
 pub mod Legal
 pub mod Facts
-pub mod Lent
+pub mod Parts

@@ -1,215 +1,112 @@
 // A legal state, "State": what is asked of each task by itself.
-ghost use Rattle.std.specs.Prelude.{◌≡◌, []};
+ghost use Rattle.std.specs.Prelude.{◌≡◌};
 ghost use Rattle.below.specs.Below.{all};
 ghost use Rattle.plan.specs.Limits.{most_tasks};
-ghost use Rattle.plan.specs.Lent.{lent};
 ghost use Rattle.state.specs.State.{most_held};
-ghost use Rattle.state.specs.Lent.{columns};
 ghost use Rattle.legal.specs.Legal.{well_written, absent_task, held_legal, resting_legal, waiting_legal};
-ghost use Rattle.legal.specs.Lent.{free_at, unlike_at, held_one, alone_legal, task_fits};
+ghost use Rattle.legal.specs.Parts.{free_at, unlike_at, held_one, alone_legal, task_fits};
 
-use plan::tables::{byte_at, length_at};
-use state::{Task, held_at, in_section, task_at};
+use plan::Plan;
+use state::{State, Task};
 
-fn free_from(t: Task, i: u8) -> bool
-    ensures { result ≡ free_at t i }
+#[tactic(auto, unfolding(crate::specs::Parts::free_at, crate::specs::Legal::implies))]
+fn free_from(t: &Task, i: u8) -> bool
+    ensures { result ≡ free_at t.now i }
 {
-    if i < t.count {
-        return true;
-    }
-    held_at(t, i) == 255
+    i < t.count || t.held_at(i) == 255
 }
 
 // Places that hold nothing say so.
-fn rest_free(t: Task) -> bool
-    ensures { result ≡ all most_held (free_at t) }
+fn rest_free(t: &Task) -> bool
+    ensures { result ≡ all most_held (free_at t.now) }
 {
-    let mut i: u8 = 0;
-    while i < 4 {
-        if !free_from(t, i) {
-            return false;
-        }
-        i += 1;
-    }
-    true
+    (0..4).all(|i| free_from(t, i))
 }
 
 // So does a task that does not wait.
-fn well_written(t: Task) -> bool
-    ensures { result ≡ well_written t }
+#[tactic(auto, unfolding(crate::specs::Legal::well_written, crate::specs::Legal::implies, crate::specs::Parts::free_at, state::specs::State::is_waiting))]
+fn well_written(t: &Task) -> bool
+    ensures { result ≡ well_written t.now }
 {
-    if 3 < t.condition {
-        return false;
-    }
-    if 4 < t.count {
-        return false;
-    }
-    if !rest_free(t) {
-        return false;
-    }
-    if t.condition == 3 {
-        return true;
-    }
-    t.waits == 255
+    t.condition <= 3 && t.count <= 4 && rest_free(t) && (t.condition == 3 || t.waits == 255)
 }
 
 // An absent task looks idle.
-fn task_absent(t: Task) -> bool
-    ensures { result ≡ absent_task t }
+#[tactic(auto, unfolding(crate::specs::Legal::absent_task, state::specs::State::is_idle))]
+fn task_absent(t: &Task) -> bool
+    ensures { result ≡ absent_task t.now }
 {
-    if !well_written(t) {
-        return false;
-    }
-    if t.condition != 0 {
-        return false;
-    }
-    t.count == 0
+    well_written(t) && t.condition == 0 && t.count == 0
 }
 
-fn unlike(t: Task, i: u8, j: u8) -> bool
-    ensures { result ≡ unlike_at t i j }
+fn unlike_before(t: &Task, i: u8) -> bool
+    ensures { result ≡ all i (unlike_at t.now i) }
 {
-    held_at(t, j) != held_at(t, i)
-}
-
-fn unlike_before(t: Task, i: u8) -> bool
-    ensures { result ≡ all i (unlike_at t i) }
-{
-    let mut j: u8 = 0;
-    while j < i {
-        if !unlike(t, i, j) {
-            return false;
-        }
-        j += 1;
-    }
-    true
+    (0..i).all(|j| t.held_at(j) != t.held_at(i))
 }
 
 // A held resource is there, declared and new, and a global one is the last.
-fn held_one<'a>(kinds: &'a [u8], lengths: &'a [u16], resources: u8, k: u8, t: Task, i: u8) -> bool
-    ensures { result ≡ held_one (lent 0 0 resources [] [] [] kinds.now lengths.now) k t i }
+#[tactic(auto, unfolding(crate::specs::Parts::held_one, crate::specs::Legal::implies))]
+fn held_one(p: &Plan, k: u8, t: &Task, i: u8) -> bool
+    ensures { result ≡ held_one p.now k t.now i }
 {
-    let r = held_at(t, i);
-    if resources <= r {
-        return false;
-    }
-    if length_at(lengths, k, r) == 65535 {
-        return false;
-    }
-    if !unlike_before(t, i) {
-        return false;
-    }
-    if byte_at(kinds, r as usize) != 1 {
-        return true;
-    }
-    (i as u16) + 1 == (t.count as u16)
+    let r = t.held_at(i);
+    r < p.resources
+        && p.declares(k, r)
+        && unlike_before(t, i)
+        && (!p.is_global(r) || (i as u16) + 1 == (t.count as u16))
 }
 
-fn held_legal<'a>(kinds: &'a [u8], lengths: &'a [u16], resources: u8, k: u8, t: Task) -> bool
-    ensures { result ≡ held_legal (lent 0 0 resources [] [] [] kinds.now lengths.now) k t }
+fn held_legal(p: &Plan, k: u8, t: &Task) -> bool
+    ensures { result ≡ held_legal p.now k t.now }
 {
-    let n = t.count;
-    let mut i: u8 = 0;
-    while i < n {
-        if !held_one(kinds, lengths, resources, k, t, i) {
-            return false;
-        }
-        i += 1;
-    }
-    true
+    (0..t.count).all(|i| held_one(p, k, t, i))
 }
 
 // Idle and ready tasks hold nothing.
-fn resting_legal(t: Task) -> bool
-    ensures { result ≡ resting_legal t }
+#[tactic(auto, unfolding(crate::specs::Legal::resting_legal, crate::specs::Legal::implies, state::specs::State::is_idle, state::specs::State::is_ready))]
+fn resting_legal(t: &Task) -> bool
+    ensures { result ≡ resting_legal t.now }
 {
-    if t.condition == 0 {
-        return t.count == 0;
+    match t.condition {
+        0 | 1 => t.count == 0,
+        _ => true,
     }
-    if t.condition == 1 {
-        return t.count == 0;
-    }
-    true
 }
 
 // A waiting task waits for a global that it declares, holds no global and at most 3 others.
-fn waiting_legal<'a>(kinds: &'a [u8], lengths: &'a [u16], resources: u8, k: u8, t: Task) -> bool
-    ensures { result ≡ waiting_legal (lent 0 0 resources [] [] [] kinds.now lengths.now) k t }
+#[tactic(auto, unfolding(crate::specs::Legal::waiting_legal, crate::specs::Legal::implies, state::specs::State::is_waiting))]
+fn waiting_legal(p: &Plan, k: u8, t: &Task) -> bool
+    ensures { result ≡ waiting_legal p.now k t.now }
 {
     if t.condition != 3 {
         return true;
     }
     let r = t.waits;
-    if resources <= r {
-        return false;
-    }
-    if byte_at(kinds, r as usize) != 1 {
-        return false;
-    }
-    if length_at(lengths, k, r) == 65535 {
-        return false;
-    }
-    if in_section(kinds, t) {
-        return false;
-    }
-    t.count <= 3
+    r < p.resources && p.is_global(r) && p.declares(k, r) && !t.in_section(p) && t.count <= 3
 }
 
-fn task_legal<'a>(kinds: &'a [u8], lengths: &'a [u16], resources: u8, k: u8, t: Task) -> bool
-    ensures { result ≡ alone_legal (lent 0 0 resources [] [] [] kinds.now lengths.now) k t }
+#[tactic(auto, unfolding(crate::specs::Parts::alone_legal))]
+fn task_legal(p: &Plan, k: u8, t: &Task) -> bool
+    ensures { result ≡ alone_legal p.now k t.now }
 {
-    if !well_written(t) {
-        return false;
-    }
-    if !held_legal(kinds, lengths, resources, k, t) {
-        return false;
-    }
-    if !resting_legal(t) {
-        return false;
-    }
-    waiting_legal(kinds, lengths, resources, k, t)
+    well_written(t) && held_legal(p, k, t) && resting_legal(t) && waiting_legal(p, k, t)
 }
 
-fn task_fits<'a, 'b>(
-    kinds: &'a [u8],
-    lengths: &'a [u16],
-    conditions: &'b [u8; 32],
-    waits: &'b [u8; 32],
-    counts: &'b [u8; 32],
-    held: &'b [u8; 128],
-    tasks: u8,
-    resources: u8,
-    k: u8,
-) -> bool
-    ensures { result ≡ task_fits (lent 0 tasks resources [] [] [] kinds.now lengths.now) (columns [] [] [] conditions.now waits.now counts.now held.now) k }
+#[tactic(auto, unfolding(crate::specs::Parts::task_fits, crate::specs::Legal::implies))]
+fn task_fits(p: &Plan, s: &State, k: u8) -> bool
+    ensures { result ≡ task_fits p.now s.now k }
 {
-    let t = task_at(conditions, waits, counts, held, k);
-    if k < tasks {
-        return task_legal(kinds, lengths, resources, k, t);
+    let t = s.task(k);
+    if k < p.tasks {
+        task_legal(p, k, &t)
+    } else {
+        task_absent(&t)
     }
-    task_absent(t)
 }
 
-pub fn all_tasks_fit<'a, 'b>(
-    kinds: &'a [u8],
-    lengths: &'a [u16],
-    conditions: &'b [u8; 32],
-    waits: &'b [u8; 32],
-    counts: &'b [u8; 32],
-    held: &'b [u8; 128],
-    tasks: u8,
-    resources: u8,
-) -> bool
-    ensures { result ≡ all most_tasks (task_fits (lent 0 tasks resources [] [] [] kinds.now lengths.now) (columns [] [] [] conditions.now waits.now counts.now held.now)) }
+pub fn all_tasks_fit(p: &Plan, s: &State) -> bool
+    ensures { result ≡ all most_tasks (task_fits p.now s.now) }
 {
-    let mut k: u8 = 0;
-    while k < 32 {
-        if !task_fits(
-            kinds, lengths, conditions, waits, counts, held, tasks, resources, k,
-        ) {
-            return false;
-        }
-        k += 1;
-    }
-    true
+    (0..32).all(|k| task_fits(p, s, k))
 }

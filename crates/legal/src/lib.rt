@@ -6,7 +6,7 @@ ghost use Rattle.below.specs.Listed.{listed};
 ghost use Rattle.plan.specs.Accepted.{accepted};
 ghost use Rattle.plan.specs.Ceiling.{ceiling};
 ghost use Rattle.legal.specs.Legal.{legal};
-ghost use Rattle.legal.specs.Lent.{subsystems_pass, tasks_pass, order_pass};
+ghost use Rattle.legal.specs.Parts.{subsystems_pass, tasks_pass, order_pass};
 
 mod alone;
 mod apart;
@@ -18,103 +18,35 @@ use alone::all_tasks_fit;
 use apart::all_apart;
 use budgets::all_counts_fit;
 use order::all_ordered;
-use plan::Plan;
+use plan::{CeiledPlan, Plan};
 use sections::{all_unused_legal, sections_legal};
 use state::State;
 
-fn subsystems_pass(p: Plan, s: State) -> bool
-    ensures { result ≡ subsystems_pass p s }
+#[tactic(auto, unfolding(crate::specs::Parts::subsystems_pass))]
+fn subsystems_pass(p: &Plan, s: &State) -> bool
+    ensures { result ≡ subsystems_pass p.now s.now }
 {
-    let left = s.left;
-    if !all_counts_fit(
-        &p.periods,
-        &p.budgets,
-        left,
-        &s.refill,
-        &s.used,
-        p.subsystems,
-    ) {
-        return false;
-    }
-    all_unused_legal(
-        &p.owners,
-        &p.kinds,
-        &s.used,
-        &s.conditions,
-        &s.waits,
-        &s.counts,
-        &s.held,
-        p.subsystems,
-        p.tasks,
-    )
+    all_counts_fit(p, s) && all_unused_legal(p, s)
 }
 
-fn tasks_pass(p: Plan, s: State) -> bool
-    ensures { result ≡ tasks_pass p s }
+#[tactic(auto, unfolding(crate::specs::Parts::tasks_pass))]
+fn tasks_pass(p: &Plan, s: &State) -> bool
+    ensures { result ≡ tasks_pass p.now s.now }
 {
-    if !all_tasks_fit(
-        &p.kinds,
-        &p.lengths,
-        &s.conditions,
-        &s.waits,
-        &s.counts,
-        &s.held,
-        p.tasks,
-        p.resources,
-    ) {
-        return false;
-    }
-    let left = s.left;
-    sections_legal(
-        &p.owners,
-        &p.kinds,
-        &p.lengths,
-        left,
-        &s.used,
-        &s.conditions,
-        &s.waits,
-        &s.counts,
-        &s.held,
-        p.tasks,
-    )
+    all_tasks_fit(p, s) && sections_legal(p, s)
 }
 
-fn order_passes(p: Plan, ceilings: [u8; 16], s: State) -> bool
-    ensures { result ≡ order_pass p ceilings s }
+#[tactic(auto, unfolding(crate::specs::Parts::order_pass))]
+fn order_passes(c: &CeiledPlan, s: &State) -> bool
+    ensures { result ≡ order_pass c.now.plan c.now.ceilings s.now }
 {
-    if !all_ordered(
-        &p.owners,
-        &p.kinds,
-        &ceilings,
-        &s.conditions,
-        &s.waits,
-        &s.counts,
-        &s.held,
-        p.tasks,
-    ) {
-        return false;
-    }
-    all_apart(
-        &p.owners,
-        &p.kinds,
-        &ceilings,
-        &s.conditions,
-        &s.waits,
-        &s.counts,
-        &s.held,
-        p.tasks,
-    )
+    all_ordered(c, s) && all_apart(c, s)
 }
 
 // Ceilings are those of the plan's resources, worked out once. A count that passes its table is no harm: a place that is not there reads as none.
-pub fn legal(p: Plan, ceilings: [u8; 16], s: State) -> bool
-    ensures { accepted p ≡ true → ceilings ≡ listed 16 (ceiling p) → result ≡ legal p s }
+#[tactic(auto, using(crate::proofs::CodeLegal::legal_tested))]
+pub fn legal(c: &CeiledPlan, s: &State) -> bool
+    ensures { accepted c.now.plan ≡ true → c.now.ceilings ≡ listed 16 (ceiling c.now.plan) → result ≡ legal c.now.plan s.now }
 {
-    if !subsystems_pass(p, s) {
-        return false;
-    }
-    if !tasks_pass(p, s) {
-        return false;
-    }
-    order_passes(p, ceilings, s)
+    subsystems_pass(&c.plan, s) && tasks_pass(&c.plan, s) && order_passes(c, s)
 }

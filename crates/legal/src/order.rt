@@ -1,158 +1,74 @@
 // A legal state, "State": how a task that holds or waits stands to the others of its subsystem. Ceilings are read out of a list, which is worked out
 // once for a plan.
-ghost use Rattle.std.specs.Prelude.{◌≡◌, []};
+ghost use Rattle.std.specs.Prelude.{◌≡◌, not};
 ghost use Rattle.below.specs.Below.{all};
-ghost use Rattle.plan.specs.Lent.{lent};
-ghost use Rattle.state.specs.Lent.{columns};
 ghost use Rattle.legal.specs.Legal.{active_before};
-ghost use Rattle.legal.specs.Lent.{below_row, below_held, first_held, ordered};
+ghost use Rattle.legal.specs.Parts.{below_row, below_held, first_held, ordered};
 
-use plan::tables::byte_at;
-use state::{Task, held_at, in_section, task_at};
+use plan::{CeiledPlan, Plan};
+use state::{State, Task};
 
 // A started or waiting task of the same subsystem that is taken before k.
-fn active_before<'a, 'b>(owners: &'a [u8], conditions: &'b [u8], k: u8, j: u8) -> bool
-    ensures { result ≡ active_before (lent 0 0 0 [] [] owners.now [] []) (columns [] [] [] conditions.now [] [] []) k j }
+#[tactic(auto, unfolding(crate::specs::Legal::active_before, plan::specs::Plan::taken_before, state::specs::State::is_active, state::specs::State::is_started, state::specs::State::is_waiting))]
+fn active_before(p: &Plan, s: &State, k: u8, j: u8) -> bool
+    ensures { result ≡ active_before p.now s.now k j }
 {
-    if k <= j {
-        return false;
-    }
-    if byte_at(owners, j as usize) != byte_at(owners, k as usize) {
-        return false;
-    }
-    let condition = byte_at(conditions, j as usize);
-    if condition == 2 {
-        return true;
-    }
-    condition == 3
+    j < k && p.owner(j) == p.owner(k) && matches!(s.task(j).condition, 2 | 3)
 }
 
-fn below_row<'a, 'b>(owners: &'a [u8], conditions: &'b [u8], k: u8, row: u8, j: u8) -> bool
-    ensures { result ≡ below_row (lent 0 0 0 [] [] owners.now [] []) (columns [] [] [] conditions.now [] [] []) k row j }
+#[tactic(auto, unfolding(crate::specs::Parts::below_row, crate::specs::Legal::implies, plan::specs::Plan::taken_before))]
+fn below_row(p: &Plan, s: &State, k: u8, row: u8, j: u8) -> bool
+    ensures { result ≡ below_row p.now s.now k row j }
 {
-    if !active_before(owners, conditions, k, j) {
-        return true;
-    }
-    j < row
+    !active_before(p, s, k, j) || j < row
 }
 
-fn all_below_row<'a, 'b>(owners: &'a [u8], conditions: &'b [u8], tasks: u8, k: u8, row: u8) -> bool
-    ensures { result ≡ all tasks (below_row (lent 0 0 0 [] [] owners.now [] []) (columns [] [] [] conditions.now [] [] []) k row) }
+fn all_below_row(p: &Plan, s: &State, k: u8, row: u8) -> bool
+    ensures { result ≡ all p.now.tasks (below_row p.now s.now k row) }
 {
-    let mut j: u8 = 0;
-    while j < tasks {
-        if !below_row(owners, conditions, k, row, j) {
-            return false;
-        }
-        j += 1;
-    }
-    true
+    (0..p.tasks).all(|j| below_row(p, s, k, row, j))
 }
 
 // If k holds a local resource, each such task lies below its ceiling number.
-fn below_held<'a, 'b, 'c>(
-    owners: &'a [u8],
-    kinds: &'a [u8],
-    ceilings: &'b [u8; 16],
-    conditions: &'c [u8],
-    tasks: u8,
-    k: u8,
-    t: Task,
-    i: u8,
-) -> bool
-    ensures { result ≡ below_held (lent 0 tasks 0 [] [] owners.now kinds.now []) ceilings.now (columns [] [] [] conditions.now [] [] []) k t i }
+#[tactic(auto, unfolding(crate::specs::Parts::below_held))]
+fn below_held(c: &CeiledPlan, s: &State, k: u8, t: &Task, i: u8) -> bool
+    ensures { result ≡ below_held c.now.plan c.now.ceilings s.now k t.now i }
 {
-    let r = held_at(t, i);
-    if byte_at(kinds, r as usize) == 1 {
-        return true;
-    }
-    let row = byte_at(ceilings, r as usize);
-    all_below_row(owners, conditions, tasks, k, row)
+    let r = t.held_at(i);
+    c.plan.is_global(r) || all_below_row(&c.plan, s, k, c.ceiling(r))
 }
 
-fn all_below_held<'a, 'b, 'c>(
-    owners: &'a [u8],
-    kinds: &'a [u8],
-    ceilings: &'b [u8; 16],
-    conditions: &'c [u8],
-    tasks: u8,
-    k: u8,
-    t: Task,
-) -> bool
-    ensures { result ≡ all t.count (below_held (lent 0 tasks 0 [] [] owners.now kinds.now []) ceilings.now (columns [] [] [] conditions.now [] [] []) k t) }
+fn all_below_held(c: &CeiledPlan, s: &State, k: u8, t: &Task) -> bool
+    ensures { result ≡ all t.now.count (below_held c.now.plan c.now.ceilings s.now k t.now) }
 {
-    let n = t.count;
-    let mut i: u8 = 0;
-    while i < n {
-        if !below_held(owners, kinds, ceilings, conditions, tasks, k, t, i) {
-            return false;
-        }
-        i += 1;
-    }
-    true
+    (0..t.count).all(|i| below_held(c, s, k, t, i))
 }
 
-// If k waits or holds a global, there is no such task: none lies below row 0.
-fn first_held<'a, 'b>(
-    owners: &'a [u8],
-    kinds: &'a [u8],
-    conditions: &'b [u8],
-    tasks: u8,
-    k: u8,
-    t: Task,
-) -> bool
-    ensures { result ≡ first_held (lent 0 tasks 0 [] [] owners.now kinds.now []) (columns [] [] [] conditions.now [] [] []) k t }
+fn none_before(p: &Plan, s: &State, k: u8) -> bool
+    ensures { result ≡ all p.now.tasks (λ j. not (active_before p.now s.now k j)) }
 {
-    if t.condition == 3 {
-        return all_below_row(owners, conditions, tasks, k, 0);
-    }
-    if !in_section(kinds, t) {
-        return true;
-    }
-    all_below_row(owners, conditions, tasks, k, 0)
+    (0..p.tasks).all(|j| !active_before(p, s, k, j))
+}
+
+// If k waits or holds a global, there is no such task.
+#[tactic(auto, unfolding(crate::specs::Parts::first_held, crate::specs::Legal::implies, state::specs::State::is_waiting))]
+fn first_held(p: &Plan, s: &State, k: u8, t: &Task) -> bool
+    ensures { result ≡ first_held p.now s.now k t.now }
+{
+    (t.condition != 3 && !t.in_section(p)) || none_before(p, s, k)
 }
 
 // An idle task holds nothing and does not wait, so it is passed at once.
-fn task_ordered<'a, 'b, 'c>(
-    owners: &'a [u8],
-    kinds: &'a [u8],
-    ceilings: &'b [u8; 16],
-    conditions: &'c [u8; 32],
-    waits: &'c [u8; 32],
-    counts: &'c [u8; 32],
-    held: &'c [u8; 128],
-    tasks: u8,
-    k: u8,
-) -> bool
-    ensures { result ≡ ordered (lent 0 tasks 0 [] [] owners.now kinds.now []) ceilings.now (columns [] [] [] conditions.now waits.now counts.now held.now) k }
+#[tactic(auto, unfolding(crate::specs::Parts::ordered))]
+fn task_ordered(c: &CeiledPlan, s: &State, k: u8) -> bool
+    ensures { result ≡ ordered c.now.plan c.now.ceilings s.now k }
 {
-    let t = task_at(conditions, waits, counts, held, k);
-    if !all_below_held(owners, kinds, ceilings, conditions, tasks, k, t) {
-        return false;
-    }
-    first_held(owners, kinds, conditions, tasks, k, t)
+    let t = s.task(k);
+    all_below_held(c, s, k, &t) && first_held(&c.plan, s, k, &t)
 }
 
-pub fn all_ordered<'a, 'b, 'c>(
-    owners: &'a [u8],
-    kinds: &'a [u8],
-    ceilings: &'b [u8; 16],
-    conditions: &'c [u8; 32],
-    waits: &'c [u8; 32],
-    counts: &'c [u8; 32],
-    held: &'c [u8; 128],
-    tasks: u8,
-) -> bool
-    ensures { result ≡ all tasks (ordered (lent 0 tasks 0 [] [] owners.now kinds.now []) ceilings.now (columns [] [] [] conditions.now waits.now counts.now held.now)) }
+pub fn all_ordered(c: &CeiledPlan, s: &State) -> bool
+    ensures { result ≡ all c.now.plan.tasks (ordered c.now.plan c.now.ceilings s.now) }
 {
-    let mut k: u8 = 0;
-    while k < tasks {
-        if !task_ordered(
-            owners, kinds, ceilings, conditions, waits, counts, held, tasks, k,
-        ) {
-            return false;
-        }
-        k += 1;
-    }
-    true
+    (0..c.plan.tasks).all(|k| task_ordered(c, s, k))
 }

@@ -1,13 +1,11 @@
 // A legal state, "State": budget and used counts fit the global sections.
-ghost use Rattle.std.specs.Prelude.{◌≡◌, [], leb};
+ghost use Rattle.std.specs.Prelude.{◌≡◌, leb};
 ghost use Rattle.below.specs.Below.{all, any};
-ghost use Rattle.plan.specs.Lent.{lent};
-ghost use Rattle.state.specs.Lent.{columns};
 ghost use Rattle.legal.specs.Legal.{section_legal, unused_legal};
-ghost use Rattle.legal.specs.Lent.{section_of};
+ghost use Rattle.legal.specs.Parts.{section_of};
 
-use plan::tables::{byte_at, length_at, word_at};
-use state::{BudgetLeft, SectionLeft, in_section, last_held, left_at, remaining, task_at};
+use plan::Plan;
+use state::{BudgetLeft, SectionLeft, State};
 
 // Invariant 1 of source 001: budget left is at least section length left.
 fn covers(left: BudgetLeft, section: SectionLeft) -> bool
@@ -17,140 +15,47 @@ fn covers(left: BudgetLeft, section: SectionLeft) -> bool
 }
 
 // Used is at most the length of the section, and budget left at least length minus used.
-fn section_legal<'a, 'b>(
-    owners: &'a [u8],
-    kinds: &'a [u8],
-    lengths: &'a [u16],
-    left: [BudgetLeft; 8],
-    used: &'b [u16],
-    conditions: &'b [u8; 32],
-    waits: &'b [u8; 32],
-    counts: &'b [u8; 32],
-    held: &'b [u8; 128],
-    k: u8,
-) -> bool
-    ensures { result ≡ section_legal (lent 0 0 0 [] [] owners.now kinds.now lengths.now) (columns left [] used.now conditions.now waits.now counts.now held.now) k }
+#[tactic(auto, unfolding(crate::specs::Legal::section_legal, crate::specs::Legal::implies))]
+fn section_legal(p: &Plan, s: &State, k: u8) -> bool
+    ensures { result ≡ section_legal p.now s.now k }
 {
-    let t = task_at(conditions, waits, counts, held, k);
-    if !in_section(kinds, t) {
+    let t = s.task(k);
+    if !t.in_section(p) {
         return true;
     }
-    let c = byte_at(owners, k as usize);
-    let length = length_at(lengths, k, last_held(t));
-    let spent = word_at(used, c as usize);
-    if length < spent {
-        return false;
-    }
-    covers(left_at(left, c), remaining(length, spent))
+    let c = p.owner(k);
+    s.used_of(c) <= p.length(k, t.last_held()) && covers(s.left_of(c), s.section_left(p, k))
 }
 
-pub fn sections_legal<'a, 'b>(
-    owners: &'a [u8],
-    kinds: &'a [u8],
-    lengths: &'a [u16],
-    left: [BudgetLeft; 8],
-    used: &'b [u16],
-    conditions: &'b [u8; 32],
-    waits: &'b [u8; 32],
-    counts: &'b [u8; 32],
-    held: &'b [u8; 128],
-    tasks: u8,
-) -> bool
-    ensures { result ≡ all tasks (section_legal (lent 0 0 0 [] [] owners.now kinds.now lengths.now) (columns left [] used.now conditions.now waits.now counts.now held.now)) }
+pub fn sections_legal(p: &Plan, s: &State) -> bool
+    ensures { result ≡ all p.now.tasks (section_legal p.now s.now) }
 {
-    let mut k: u8 = 0;
-    while k < tasks {
-        if !section_legal(
-            owners, kinds, lengths, left, used, conditions, waits, counts, held, k,
-        ) {
-            return false;
-        }
-        k += 1;
-    }
-    true
+    (0..p.tasks).all(|k| section_legal(p, s, k))
 }
 
-fn section_of<'a, 'b>(
-    owners: &'a [u8],
-    kinds: &'a [u8],
-    conditions: &'b [u8; 32],
-    waits: &'b [u8; 32],
-    counts: &'b [u8; 32],
-    held: &'b [u8; 128],
-    c: u8,
-    k: u8,
-) -> bool
-    ensures { result ≡ section_of (lent 0 0 0 [] [] owners.now kinds.now []) (columns [] [] [] conditions.now waits.now counts.now held.now) c k }
+#[tactic(auto, unfolding(crate::specs::Parts::section_of))]
+fn section_of(p: &Plan, s: &State, c: u8, k: u8) -> bool
+    ensures { result ≡ section_of p.now s.now c k }
 {
-    if byte_at(owners, k as usize) != c {
-        return false;
-    }
-    in_section(kinds, task_at(conditions, waits, counts, held, k))
+    p.owner(k) == c && s.task(k).in_section(p)
 }
 
-fn any_section<'a, 'b>(
-    owners: &'a [u8],
-    kinds: &'a [u8],
-    conditions: &'b [u8; 32],
-    waits: &'b [u8; 32],
-    counts: &'b [u8; 32],
-    held: &'b [u8; 128],
-    tasks: u8,
-    c: u8,
-) -> bool
-    ensures { result ≡ any tasks (section_of (lent 0 0 0 [] [] owners.now kinds.now []) (columns [] [] [] conditions.now waits.now counts.now held.now) c) }
+fn any_section(p: &Plan, s: &State, c: u8) -> bool
+    ensures { result ≡ any p.now.tasks (section_of p.now s.now c) }
 {
-    let mut k: u8 = 0;
-    while k < tasks {
-        if section_of(owners, kinds, conditions, waits, counts, held, c, k) {
-            return true;
-        }
-        k += 1;
-    }
-    false
+    (0..p.tasks).any(|k| section_of(p, s, c, k))
 }
 
 // Used is 0 without a section.
-fn unused_legal<'a, 'b>(
-    owners: &'a [u8],
-    kinds: &'a [u8],
-    used: &'b [u16],
-    conditions: &'b [u8; 32],
-    waits: &'b [u8; 32],
-    counts: &'b [u8; 32],
-    held: &'b [u8; 128],
-    tasks: u8,
-    c: u8,
-) -> bool
-    ensures { result ≡ unused_legal (lent 0 tasks 0 [] [] owners.now kinds.now []) (columns [] [] used.now conditions.now waits.now counts.now held.now) c }
+#[tactic(auto, unfolding(crate::specs::Legal::unused_legal, crate::specs::Parts::section_of))]
+fn unused_legal(p: &Plan, s: &State, c: u8) -> bool
+    ensures { result ≡ unused_legal p.now s.now c }
 {
-    if word_at(used, c as usize) == 0 {
-        return true;
-    }
-    any_section(owners, kinds, conditions, waits, counts, held, tasks, c)
+    s.used_of(c) == 0 || any_section(p, s, c)
 }
 
-pub fn all_unused_legal<'a, 'b>(
-    owners: &'a [u8],
-    kinds: &'a [u8],
-    used: &'b [u16],
-    conditions: &'b [u8; 32],
-    waits: &'b [u8; 32],
-    counts: &'b [u8; 32],
-    held: &'b [u8; 128],
-    subsystems: u8,
-    tasks: u8,
-) -> bool
-    ensures { result ≡ all subsystems (unused_legal (lent 0 tasks 0 [] [] owners.now kinds.now []) (columns [] [] used.now conditions.now waits.now counts.now held.now)) }
+pub fn all_unused_legal(p: &Plan, s: &State) -> bool
+    ensures { result ≡ all p.now.subsystems (unused_legal p.now s.now) }
 {
-    let mut c: u8 = 0;
-    while c < subsystems {
-        if !unused_legal(
-            owners, kinds, used, conditions, waits, counts, held, tasks, c,
-        ) {
-            return false;
-        }
-        c += 1;
-    }
-    true
+    (0..p.subsystems).all(|c| unused_legal(p, s, c))
 }

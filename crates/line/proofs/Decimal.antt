@@ -80,3 +80,20 @@ decimal_length (suc k) n h = go (ltb n 10) refl (decimal_length k (n / 10))
         let m = ltb-false n 10 t in
         let e = pow-succ' 10 (suc k) in
         omega (arith, decimal_longer n m, ih (omega arith))
+
+-- how many the numbers of a type have
+pub digits_u64 : (n : ℕ) → n < 18446744073709551616 → length (decimal n) ≤ 20
+digits_u64 n h = decimal_length 19 n (omega arith)
+
+pub digits_u32 : (n : ℕ) → n < 4294967296 → length (decimal n) ≤ 10
+digits_u32 n h = decimal_length 9 n (omega arith)
+
+pub digits_u16 : (n : ℕ) → n < 65536 → length (decimal n) ≤ 5
+digits_u16 n h = decimal_length 4 n (omega arith)
+
+pub digits_u8 : (n : ℕ) → n < 256 → length (decimal n) ≤ 3
+digits_u8 n h = decimal_length 2 n (omega arith)
+
+-- and the row of a task
+pub digits_task : (n : ℕ) → n < 32 → length (decimal n) ≤ 2
+digits_task n h = decimal_length 1 n (omega arith)

@@ -1,37 +1,21 @@
--- Digits written one by one, the last first: what is still to write, in front of what stands.
-use mathlib.Core.Path.{◌≡◌, ◌∙◌}
-use mathlib.Core.List.{List, [], ◌∷◌, ◌++◌, append_assoc}
-use Prim.Native.Nat.{ℕ, ◌+◌, ◌/◌, ◌%◌, ◌≤◌, ◌<◌}
-use native.Mathlib.Omega.{arith}
-use lib.ListN.{length, drop}
+-- Digits written one by one, the last first.
+use Rattle.std.proofs.Common.{◌≡◌, ℕ, ◌+◌, ◌/◌, ◌%◌, ◌≤◌, ◌<◌, List, ◌∷◌, ◌++◌, length, length-append, append_assoc, ap, ◌∙◌, arith}
 use Rattle.text.specs.Numbers.{decimal}
-use Rattle.line.specs.Before.{Before}
-use Rattle.line.proofs.Decimal.{decimal_small, decimal_large, decimal_one, decimal_longer, decimal_some}
+use Rattle.line.proofs.Decimal.{decimal_small, decimal_large, decimal_some}
 
--- with the digits of n in front the whole number will stand there
-pub record Written (number : ℕ) (old : List ℕ) (at n : ℕ) (new : List ℕ) (i : ℕ) : Type 0 where
-  pub holds : decimal n ++ drop i new ≡ decimal number ++ drop at old
-  pub place : i + length (decimal number) ≡ at + length (decimal n)
-  pub below : i ≤ at
+-- with the digits of n in front of t, the whole number will stand in front of s
+pub record Written (number n : ℕ) (s t : List ℕ) : Type 0 where
+  pub whole : decimal n ++ t ≡ decimal number ++ s
 
-module _ {number : ℕ} {old : List ℕ} {at n : ℕ} {new : List ℕ} {i : ℕ} (w : Written number old at n new i) where
+module _ {number n : ℕ} {s t : List ℕ} (w : Written number n s t) where
+  -- there is room for a digit
+  pub digit_room : length (decimal number) + length s ≤ 128 → length t < 128
+  digit_room h = omega (arith, simp length-append at (ap length w.whole), decimal_some n)
+
   -- the last digit of a larger number is written
-  pub digit_next : {s : List ℕ} {r d m : ℕ} → 10 ≤ n → d ≡ 48 + n % 10 → m ≡ n / 10 → Before (d ∷ []) new i s r → Written number old at m s r
-  digit_next h e f b = rw f (go (rw e at b))
-    where
-      go : {s : List ℕ} {r : ℕ} → Before ((48 + n % 10) ∷ []) new i s r → Written number old at (n / 10) s r
-      go b =
-          record {
-            holds = rw b.holds (rw (decimal_large n h, append_assoc) at w.holds);
-            place = omega (arith, decimal_longer n h);
-            below = omega arith;
-          }
+  pub digit_next : {u : List ℕ} {d m : ℕ} → 10 ≤ n → d ≡ 48 + n % 10 → m ≡ n / 10 → u ≡ d ∷ t → Written number m s u
+  digit_next h e f b = record { whole = rw (b, e, f) (rw (decimal_large n h, append_assoc) at w.whole) }
 
   -- the only digit that is left is written
-  pub digit_last : {s : List ℕ} {r d : ℕ} → n < 10 → d ≡ 48 + n → Before (d ∷ []) new i s r → Before (decimal number) old at s r
-  digit_last h e b =
-      record { place = omega (arith, decimal_one n h); holds = b.holds ∙ rw e (rw (decimal_small n h) at w.holds) }
-
-  -- there is room for a digit
-  pub digit_room : length (decimal number) ≤ at → 1 ≤ i
-  digit_room h = omega (arith, decimal_some n)
+  pub digit_last : {u : List ℕ} {d : ℕ} → n < 10 → d ≡ 48 + n → u ≡ d ∷ t → u ≡ decimal number ++ s
+  digit_last h e b = b ∙ rw e (rw (decimal_small n h) at w.whole)

@@ -1,4 +1,3 @@
-pub mod Composed
 pub mod Decimal
 pub mod Digits
 pub mod Fields

@@ -1,26 +1,19 @@
 -- Rows of a set written one by one, the last first: what is still to write, in front of the rows that stand.
-use mathlib.Core.Path.{◌≡◌, refl, sym, ◌∙◌, subst}
-use mathlib.Core.Bool.{Bool, true, false}
-use mathlib.Core.List.{List, [], ◌∷◌, ◌++◌, append_assoc, append-nil}
-use Prim.Native.Nat.{ℕ, suc, ◌+◌, ◌-◌, ◌*◌, ◌/◌, ◌%◌, ◌^◌, ◌≤◌, ◌<◌}
-use native.Mathlib.Omega.{arith}
-use lib.Dec.{ltb}
-use lib.ListN.{length, length-append}
+use Rattle.std.proofs.Common.{◌≡◌, ℕ, suc, ◌+◌, ◌-◌, ◌*◌, ◌/◌, ◌%◌, ◌^◌, ◌≤◌, ◌<◌, Bool, true, false, List, [], ◌∷◌, ◌++◌, length, length-append, append_assoc, append-nil, refl, sym, ap, ◌∙◌, arith}
 use borrow.Author.Tests.{eq-eqb, ne_eqb}
 use Rattle.text.specs.Bytes.{bytes}
 use Rattle.text.specs.Numbers.{decimal}
 use Rattle.line.specs.Printed.{is_in, comma_before, rows_onto}
-use Rattle.line.specs.Before.{Before, joined}
-use Rattle.line.proofs.Composed.{then}
-use Rattle.line.proofs.Decimal.{decimal_length}
-use Rattle.line.proofs.Fields.{joined_more, joined_last}
+use Rattle.line.specs.Before.{joined}
+use Rattle.line.proofs.Decimal.{decimal_some, digits_task}
 
--- the text that stands, and that the rows below k complete it
-pub record Rows (set : ℕ) (old : List ℕ) (at k : ℕ) (new : List ℕ) (i : ℕ) : Type 0 where
+-- the text that stands in front of s, that the rows below k complete it, and whether a comma comes in front of it
+pub record Rows (set k : ℕ) (others : Bool) (s t : List ℕ) : Type 0 where
   pub text : List ℕ
-  pub stands : Before text old at new i
+  pub stands : t ≡ text ++ s
   pub rest : rows_onto k set text ≡ rows_onto 32 set []
   pub short : length text + 3 * k ≤ 96
+  pub comma : (n : ℕ) → joined n others ++ text ≡ comma_before n text
 
 -- the rows by their last
 module _ (n set : ℕ) (bs : List ℕ) where
@@ -32,57 +25,59 @@ module _ (n set : ℕ) (bs : List ℕ) where
   unfolding rows_onto is_in
   onto_out d = rw (rows_onto, is_in, ne_eqb _ _ d)
 
-onto_none : (k set : ℕ) (bs : List ℕ) → k ≡ 0 → rows_onto k set bs ≡ bs
-unfolding rows_onto
-onto_none k set bs e = rw e
-
 -- a comma comes between a row and rows behind it
-comma : (n i at : ℕ) (t : List ℕ) → i + length t ≡ at → joined n (ltb i at) ++ t ≡ comma_before n t
-unfolding comma_before bytes
-comma n i at [] e = rw (joined_last n i at (omega arith)) (append-nil (decimal n))
-comma n i at (b ∷ bs) e = rw (joined_more n i at (omega arith), append_assoc)
+comma_none : (n : ℕ) → joined n false ++ [] ≡ comma_before n []
+unfolding joined comma_before
+comma_none n = append-nil (decimal n)
 
-joined_short : (n i at : ℕ) → n < 32 → length (joined n (ltb i at)) ≤ 3
+comma_more : (t : List ℕ) → 1 ≤ length t → (n : ℕ) → joined n true ++ t ≡ comma_before n t
+unfolding joined comma_before bytes
+comma_more [] h n = absurd (omega arith)
+comma_more (b ∷ bs) h n = append_assoc (decimal n) _ _
+
+joined_some : (n : ℕ) (b : Bool) → 1 ≤ length (joined n b)
+unfolding joined
+joined_some n true = rw length-append (omega (arith, decimal_some n))
+joined_some n false = decimal_some n
+
+joined_short : (n : ℕ) (b : Bool) → n < 32 → length (joined n b) ≤ 3
 unfolding joined bytes
-joined_short n i at h = go (ltb i at)
-  where
-    go : (b : Bool) → length (joined n b) ≤ 3
-    go true = rw (length-append (decimal n)) (omega (arith, decimal_length 1 n (omega arith)))
-    go false = omega (arith, decimal_length 1 n (omega arith))
+joined_short n true h = rw length-append (omega (arith, digits_task n h))
+joined_short n false h = omega (arith, digits_task n h)
 
 -- none stands yet, and all are to come
-pub rows_first : (set : ℕ) (old : List ℕ) (at k : ℕ) → k ≡ 32 → Rows set old at k old at
-rows_first set old at k e = rw e (record { text = []; stands = record { place = omega arith; holds = refl }; rest = refl; short = omega arith })
+pub rows_first : (set : ℕ) (s : List ℕ) → Rows set 32 false s s
+rows_first set s = record { text = []; stands = refl; rest = refl; short = omega arith; comma = comma_none }
 
-module _ {set : ℕ} {old : List ℕ} {at k : ℕ} {new : List ℕ} {i : ℕ} (w : Rows set old at k new i) (some : 1 ≤ k) where
+module _ {set k : ℕ} {others : Bool} {s t : List ℕ} (w : Rows set k others s t) where
+  -- there is room for a row and a comma
+  pub row_room : 1 ≤ k → 96 + length s ≤ 128 → 3 + length t ≤ 128
+  row_room h l = omega (arith, w.short, simp length-append at (ap length w.stands))
+
+  -- all are written
+  pub rows_last : k ≡ 0 → t ≡ rows_onto 32 set [] ++ s
+  unfolding rows_onto
+  rows_last e = w.stands ∙ ap (λ z. z ++ s) (rw e at w.rest)
+
+module _ {set k : ℕ} {others : Bool} {s t : List ℕ} (w : Rows set k others s t) (some : 1 ≤ k) where
   later : rows_onto (suc (k - 1)) set w.text ≡ rows_onto 32 set []
   later =
       let e : k ≡ suc (k - 1) = omega arith in
       rw e at w.rest
 
   -- the last of them is in the set and was written
-  pub row_in : {s : List ℕ} {r : ℕ} → k ≤ 32 → set / 2 ^ (k - 1) % 2 ≡ 1 → Before (joined (k - 1) (ltb i at)) new i s r
-      → Rows set old at (k - 1) s r
+  pub row_in : {u : List ℕ} → k ≤ 32 → set / 2 ^ (k - 1) % 2 ≡ 1 → u ≡ joined (k - 1) others ++ t → Rows set (k - 1) true s u
   row_in h e b =
+      let l : length (joined (k - 1) others ++ w.text) ≡ length (joined (k - 1) others) + length w.text = length-append _ _ in
       record {
-        text = joined (k - 1) (ltb i at) ++ w.text;
-        stands = then w.stands b;
-        rest = rw (comma (k - 1) i at w.text w.stands.place) (sym (onto_in (k - 1) set w.text e) ∙ later);
-        short = rw length-append (omega (arith, w.short, joined_short (k - 1) i at (omega arith)));
+        text = joined (k - 1) others ++ w.text;
+        stands = b ∙ rw (w.stands, append_assoc);
+        rest = rw (w.comma (k - 1)) (sym (onto_in (k - 1) set w.text e) ∙ later);
+        short = omega (arith, l, w.short, joined_short (k - 1) others (omega arith));
+        comma = comma_more _ (omega (arith, l, joined_some (k - 1) others));
       }
 
   -- it is not in the set
-  pub row_out : (set / 2 ^ (k - 1) % 2 ≡ 1 → ⊥) → Rows set old at (k - 1) new i
-  row_out n =
-      record {
-        text = w.text;
-        stands = w.stands;
-        rest = sym (onto_out (k - 1) set w.text n) ∙ later;
-        short = omega (arith, w.short);
-      }
-
--- all are written
-pub rows_last : {set : ℕ} {old : List ℕ} {at k : ℕ} {new : List ℕ} {i : ℕ} → Rows set old at k new i → k ≡ 0
-    → Before (rows_onto 32 set []) old at new i × (at ≤ i + 96)
-rows_last {set} {old} {at} {k} {new} {i} w e =
-    (subst (λ (t : List ℕ). Before t old at new i) (sym (onto_none k set w.text e) ∙ w.rest) w.stands, omega (arith, w.stands.place, w.short))
+  pub row_out : (set / 2 ^ (k - 1) % 2 ≡ 1 → ⊥) → Rows set (k - 1) others s t
+  row_out d =
+      record { text = w.text; stands = w.stands; rest = sym (onto_out (k - 1) set w.text d) ∙ later; short = omega (arith, w.short); comma = w.comma }

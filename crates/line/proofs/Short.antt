@@ -12,7 +12,7 @@ use Rattle.text.specs.Bytes.{bytes}
 use Rattle.text.specs.Numbers.{decimal}
 use Rattle.step.specs.declared.Outcome.{Outcome}
 use Rattle.line.specs.Printed.{row_text, is_in, comma_before, rows_onto, ended_text, answer_line, printed}
-use Rattle.line.proofs.Decimal.{decimal_length, decimal_some}
+use Rattle.line.proofs.Decimal.{decimal_length, decimal_some, digits_u8, digits_u32}
 use Rattle.line.proofs.Fields.{row_length}
 use Rattle.line.proofs.Spaced.{more_length, last_length}
 
@@ -61,13 +61,17 @@ rows_weight (suc n) set t h = go (is_in set n) (rows_weight n set (comma_before 
     go true i o = omega (arith, i (omega arith), comma_weight n t, digits n (omega arith))
     go false i o = omega (arith, o (omega arith))
 
+pub rows_length : (set : ℕ) → length (rows_onto 32 set []) ≤ 85
+unfolding weight
+rows_length set = omega (arith, weight_length (rows_onto 32 set []), rows_weight 32 set [] (omega arith))
+
 pub ended_length : (set : ℕ) → length (ended_text set) ≤ 85
-unfolding ended_text bytes weight
+unfolding ended_text bytes
 ended_length set = go (eqb set 0)
   where
     go : (b : Bool) → length {A = ℕ} (elim b [ true ↦ bytes "-" | false ↦ rows_onto 32 set [] ]) ≤ 85
     go true = omega arith
-    go false = omega (arith, weight_length (rows_onto 32 set []), rows_weight 32 set [] (omega arith))
+    go false = rows_length set
 
 pub answer_length : (n answer subsystem task ended : ℕ) → n < 4294967296 → answer < 256 → subsystem < 256 → task < 256
     → length (answer_line n answer subsystem task ended) ≤ 109
@@ -80,8 +84,8 @@ answer_length n answer subsystem task ended a b c d =
       more_length (row_text subsystem) (row_text task) (ended_text ended ∷ []),
       more_length (row_text task) (ended_text ended) [],
       last_length (ended_text ended),
-      decimal_length 9 n (omega arith),
-      decimal_length 2 answer (omega arith),
+      digits_u32 n a,
+      digits_u8 answer b,
       row_length subsystem c,
       row_length task d,
       ended_length ended,

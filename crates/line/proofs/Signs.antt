@@ -1,17 +1,8 @@
--- Laws of a signed number without its sign, and of its text.
-use mathlib.Core.Path.{◌≡◌, refl, ap}
-use mathlib.Core.Bool.{true, false}
-use mathlib.Core.List.{◌∷◌}
-use Prim.Native.Nat.{ℕ, suc, ◌+◌, ◌^◌, ◌≤◌, ◌<◌}
-use native.Mathlib.Omega.{arith}
-use lib.Dec.{T}
-use lib.IntN.{ℤ, pos, negsuc, ◌-ℤ◌, nat_abs}
-use lib.ListN.{length}
-use lib.Signed.{mag, lt_z, non_neg}
-use mir.Syntax.{w64}
-use mir.Val.{Fits, SFits, of_z, to_z}
-use mir.Facts.{to_z-of_z}
-use borrow.Author.Tests.{le-ltb, ltb-true}
+-- Laws of a signed number's text: a dash in front of a negative number's size.
+use Rattle.std.proofs.Common.{◌≡◌, ℕ, suc, ◌+◌, ◌≤◌, ◌<◌, ◌∷◌, true, false, length, refl, ap, ◌∙◌, arith, to_z-of_z, w64, SFits, of_z, to_z}
+use Rattle.std.specs.Prelude.{ℤ, pos, negsuc, nat_abs}
+use lib.Signed.{lt_z}
+use borrow.Author.Tests.{ltb-true}
 use Rattle.text.specs.Bytes.{bytes}
 use Rattle.text.specs.Numbers.{decimal}
 use Rattle.line.specs.Report.{signed}
@@ -21,33 +12,7 @@ use Rattle.line.proofs.Decimal.{decimal_length}
 abbrev pub read : ℤ → ℤ
 read z = to_z w64 (of_z w64 z)
 
--- what lies between -1 and a negative number, which has one more
-pub record Turned (z : ℤ) : Type 0 where
-  pub once : negsuc 0 -ℤ read z ≡ pos (mag z)
-  pub back : read (pos (mag z)) ≡ pos (mag z)
-  pub size : nat_abs z ≡ mag z + 1
-  pub small : mag z < 2 ^ 63
-
-from_one : (n : ℕ) → negsuc 0 -ℤ negsuc n ≡ pos n
-from_one n = rw (le-ltb (suc n) 1 (omega arith)) (ap pos (omega arith))
-
-pub turned : (z : ℤ) → SFits w64 z → lt_z (read z) (pos 0) ≡ true → Turned z
-turned z f t = go z f (rw (to_z-of_z f) at t)
-  where
-    go : (y : ℤ) → SFits w64 y → lt_z y (pos 0) ≡ true → Turned y
-    go (pos n) g e = absurd (omega (arith, ltb-true n 0 e))
-    go (negsuc n) g e =
-        record { once = rw (to_z-of_z g) (from_one n); back = to_z-of_z {w = w64} (record { sfits = g.sfits }); size = omega arith; small = g.sfits }
-
--- a number that is not negative is its own size
-pub plain : (z : ℤ) → SFits w64 z → lt_z (read z) (pos 0) ≡ false → T (non_neg (read z)) × Fits w64 (nat_abs (read z))
-plain z f t = rw (to_z-of_z f) (go z f (rw (to_z-of_z f) at t))
-  where
-    go : (y : ℤ) → SFits w64 y → lt_z y (pos 0) ≡ false → T (non_neg y) × Fits w64 (nat_abs y)
-    go (pos n) g e = (tt, record { fits = omega (arith, g.sfits) })
-    go (negsuc n) g e = let o : ◌≡◌ {A = ℕ} 0 1 = cc in absurd (omega arith)
-
--- the text: a dash in front of a negative number's size
+-- the text of a negative number, and of any other
 pub signed_below : (z : ℤ) → SFits w64 z → lt_z (read z) (pos 0) ≡ true → signed z ≡ 45 ∷ decimal (nat_abs z)
 unfolding signed bytes
 signed_below z f t = go z (rw (to_z-of_z f) at t)
@@ -72,3 +37,17 @@ pub signed_length : (z : ℤ) → SFits w64 z → length (signed z) ≤ 20
 unfolding signed bytes
 signed_length (pos n) f = omega (arith, size_length (pos n) f)
 signed_length (negsuc n) f = omega (arith, size_length (negsuc n) f)
+
+-- of a number as it is read
+module _ {z : ℤ} {n : ℕ} (f : SFits w64 z) (e : n ≡ nat_abs (read z)) where
+  size : n ≡ nat_abs z
+  size = e ∙ ap nat_abs (to_z-of_z f)
+
+  pub size_short : length (decimal n) ≤ 19
+  size_short = rw size (size_length z f)
+
+  pub below_text : lt_z (read z) (pos 0) ≡ true → signed z ≡ 45 ∷ decimal n
+  below_text t = rw size (signed_below z f t)
+
+  pub plain_text : lt_z (read z) (pos 0) ≡ false → signed z ≡ decimal n
+  plain_text t = rw size (signed_plain z f t)

@@ -1,13 +1,8 @@
 -- How a line is composed: from its last byte to its first, each piece in front of what stands already.
-use Rattle.std.specs.Prelude.{◌≡◌, Bool, true, false, List, [], ◌∷◌, ◌++◌, ℕ, ◌+◌, length, drop}
+use Rattle.std.specs.Prelude.{Bool, true, false, List, [], ◌∷◌, ◌++◌, ℕ}
 use Rattle.text.specs.Bytes.{bytes}
 use Rattle.text.specs.Numbers.{decimal}
 use Rattle.line.specs.Printed.{space}
-
--- a text stands in front of what stood at a place, and begins at r
-pub record Before (text old : List ℕ) (at : ℕ) (new : List ℕ) (r : ℕ) : Type 0 where
-  pub place : r + length text ≡ at
-  pub holds : drop r new ≡ text ++ drop at old
 
 -- a field and the space behind it
 unfoldable pub parted : List ℕ → List ℕ

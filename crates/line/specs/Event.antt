@@ -1,27 +1,30 @@
 -- "The run program": an event line is a name and exactly the numbers that its kind uses, written and parted as in the plan text.
 use Rattle.std.specs.Prelude.{true, false, List, [], ◌∷◌, ℕ}
-use Rattle.std.specs.Prelude.{None, Some}
+use Rattle.std.specs.Prelude.{Option, None, Some}
 use Rattle.text.specs.Bytes.{bytes, same}
 use Rattle.text.specs.Lines.{body, fields}
 use Rattle.text.specs.Numbers.{numbers, of_none, of_one, of_two}
 use Rattle.step.specs.Refusals.{release, lock, unlock, end, tick}
 use Rattle.line.specs.declared.Event.{Event}
-use Rattle.line.specs.declared.Event.TheVariants.{Known, Malformed}
+
+-- an event by its kind, its task row and its resource row
+abbrev pub known : ℕ → ℕ → ℕ → Option Event
+known kind task resource = Some (record { kind = kind; task = task; resource = resource })
 
 -- the kind of the name, with just the rows that it uses; other rows are 0 and not read
-unfoldable pub of_name : List ℕ → List ℕ → Event
+unfoldable pub of_name : List ℕ → List ℕ → Option Event
 of_name name ns =
     elim (same name (bytes "release")) [
-      | true ↦ of_one Malformed (λ k. Known release k 0) ns
+      | true ↦ of_one None (λ k. known release k 0) ns
       | false ↦ elim (same name (bytes "lock")) [
-        | true ↦ of_two Malformed (Known lock) ns
+        | true ↦ of_two None (known lock) ns
         | false ↦ elim (same name (bytes "unlock")) [
-          | true ↦ of_two Malformed (Known unlock) ns
+          | true ↦ of_two None (known unlock) ns
           | false ↦ elim (same name (bytes "end")) [
-            | true ↦ of_one Malformed (λ k. Known end k 0) ns
+            | true ↦ of_one None (λ k. known end k 0) ns
             | false ↦ elim (same name (bytes "tick")) [
-              | true ↦ of_none Malformed (Known tick 0 0) ns
-              | false ↦ Malformed
+              | true ↦ of_none None (known tick 0 0) ns
+              | false ↦ None
             ]
           ]
         ]
@@ -29,10 +32,10 @@ of_name name ns =
     ]
 
 -- the first field is the name, the others are numbers
-unfoldable pub of_fields : List (List ℕ) → Event
-of_fields [] = Malformed
-of_fields (name ∷ fs) = elim (numbers fs) [ None ↦ Malformed | Some ns ↦ of_name name ns ]
+unfoldable pub of_fields : List (List ℕ) → Option Event
+of_fields [] = None
+of_fields (name ∷ fs) = elim (numbers fs) [ None ↦ None | Some ns ↦ of_name name ns ]
 
 -- a line with its line feed; an empty line and one without its line feed are malformed
-unfoldable pub event_of : List ℕ → Event
-event_of l = elim (body l) [ None ↦ Malformed | Some b ↦ of_fields (fields b) ]
+unfoldable pub event_of : List ℕ → Option Event
+event_of l = elim (body l) [ None ↦ None | Some b ↦ of_fields (fields b) ]

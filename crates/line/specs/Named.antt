@@ -2,26 +2,21 @@
 use Rattle.std.specs.Prelude.{Bool, true, false, ◌||◌, List, ℕ, eqb}
 use Rattle.std.specs.Prelude.{Option, None, Some}
 use Rattle.text.specs.Bytes.{bytes, same}
-use Rattle.text.specs.Numbers.{number, of_none, of_one, of_two}
-use Rattle.text.specs.declared.Number.TheVariants.{Written, Nothing}
+use Rattle.text.specs.Numbers.{of_none, of_one, of_two}
 use Rattle.step.specs.Refusals.{release, lock, unlock, end, tick}
 use Rattle.line.specs.declared.Event.{Event}
-use Rattle.line.specs.declared.Event.TheVariants.{Known, Malformed}
+use Rattle.line.specs.Event.{known}
 
--- no kind
-abbrev pub no_kind : ℕ
-no_kind = 5
-
--- the kind of a name
-unfoldable pub kind_of : List ℕ → ℕ
+-- the kind of a name, if it names one
+unfoldable pub kind_of : List ℕ → Option ℕ
 kind_of name =
     elim (same name (bytes "release")) [
-      | true ↦ release
+      | true ↦ Some release
       | false ↦ elim (same name (bytes "lock")) [
-        | true ↦ lock
+        | true ↦ Some lock
         | false ↦ elim (same name (bytes "unlock")) [
-          | true ↦ unlock
-          | false ↦ elim (same name (bytes "end")) [ true ↦ end | false ↦ elim (same name (bytes "tick")) [ true ↦ tick | false ↦ no_kind ] ]
+          | true ↦ Some unlock
+          | false ↦ elim (same name (bytes "end")) [ true ↦ Some end | false ↦ elim (same name (bytes "tick")) [ true ↦ Some tick | false ↦ None ] ]
         ]
       ]
     ]
@@ -35,21 +30,12 @@ unfoldable pub uses_two : ℕ → Bool
 uses_two kind = eqb kind lock || eqb kind unlock
 
 -- just the rows that the kind uses
-unfoldable pub of_kind : ℕ → List ℕ → Event
+unfoldable pub of_kind : ℕ → List ℕ → Option Event
 of_kind kind ns =
     elim (uses_one kind) [
-      | true ↦ of_one Malformed (λ k. Known kind k 0) ns
+      | true ↦ of_one None (λ k. known kind k 0) ns
       | false ↦ elim (uses_two kind) [
-        | true ↦ of_two Malformed (Known kind) ns
-        | false ↦ elim (eqb kind tick) [ true ↦ of_none Malformed (Known tick 0 0) ns | false ↦ Malformed ]
+        | true ↦ of_two None (known kind) ns
+        | false ↦ elim (eqb kind tick) [ true ↦ of_none None (known tick 0 0) ns | false ↦ None ]
       ]
     ]
-
--- what is made of the numbers, if each field writes one
-unfoldable pub made : (List ℕ → Event) → Option (List ℕ) → Event
-made g None = Malformed
-made g (Some ns) = g ns
-
--- the last row is simply the rest of the line
-unfoldable pub last_row : (ℕ → Event) → List ℕ → Event
-last_row f t = elim (number t) [ Nothing ↦ Malformed | Written n ↦ f n ]

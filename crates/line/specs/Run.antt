@@ -1,5 +1,6 @@
 -- "The run program": a plan text and an event text to the printed text.
 use Rattle.std.specs.Prelude.{true, false, List, [], ◌∷◌, ◌++◌, ℕ, ◌+◌, take}
+use Rattle.std.specs.Prelude.{Option, Some, None}
 use Rattle.text.specs.Lines.{lines}
 use Rattle.plan.specs.declared.Plan.{Plan}
 use Rattle.reader.specs.Numbers.{number, beside, is_accepted}
@@ -10,7 +11,6 @@ use Rattle.step.specs.declared.Outcome.{Outcome}
 use Rattle.step.specs.Events.{answered}
 use Rattle.step.specs.Step.{stepped}
 use Rattle.line.specs.declared.Event.{Event}
-use Rattle.line.specs.declared.Event.TheVariants.{Known, Malformed}
 use Rattle.line.specs.Event.{event_of}
 use Rattle.line.specs.Printed.{printed, printed_refusal}
 
@@ -19,9 +19,9 @@ abbrev pub most_lines : ℕ
 most_lines = 9999999
 
 -- a line that is no event is answered 11
-unfoldable pub event_gives : Plan → State → Event → Outcome
-event_gives p s (Known kind k r) = stepped p s kind k r
-event_gives p s Malformed = answered p s 11
+unfoldable pub event_gives : Plan → State → Option Event → Outcome
+event_gives p s (Some e) = stepped p s e.kind e.task e.resource
+event_gives p s None = answered p s 11
 
 -- what an event line gives
 unfoldable pub line_gives : Plan → State → List ℕ → Outcome

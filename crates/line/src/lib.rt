@@ -1,23 +1,17 @@
 #![tactic(auto)]
 
-mod before;
 mod events;
 mod printed;
 mod put;
+mod scratch;
 
 pub use events::event_of;
 pub use printed::{print, print_refusal, report_line};
 
-// An event line that was read.
-#[derive(Clone, Copy)]
-pub enum Event {
-    Known { kind: u32, task: u32, resource: u32 },
-    Malformed,
-}
-
-// What writing into the rest of a buffer answers: the new fill, or that the line is longer than the rest.
-#[derive(Clone, Copy)]
-pub enum Filled {
-    Fill(usize),
-    NoRoom,
+// An event line that was read: a kind of event and the rows that it uses; other rows are 0 and not read.
+#[derive(Clone, Copy, PartialEq, Eq)]
+pub struct Event {
+    pub kind: u32,
+    pub task: u32,
+    pub resource: u32,
 }

@@ -1,38 +1,21 @@
-// "The run program": each line is written into the unfilled rest of the output buffer. The writer gets the buffer's tail and reports its fill.
+// "The run program": each line is written into the unfilled rest of the output buffer.
 ghost use Rattle.std.specs.Prelude.{◌≡◌, ◌≤◌, length};
 ghost use Rattle.line.specs.Filled.{fill_after, out_after};
 
-use crate::Filled;
-
-// Copies a line to the front of the rest, unless it is longer, and reports how much of the rest is filled.
-fn put(rest: &mut [u8], line: &[u8]) -> Filled
-    ensures { (result ≡ fill_after rest.old 0 line.now)
-        × (rest.new ≡ out_after rest.old 0 line.now) }
-{
-    let n = line.len();
-    if rest.len() < n {
-        return Filled::NoRoom;
-    }
-    let mut i = 0;
-    while i < n {
-        rest[i] = line[i];
-        i += 1;
-    }
-    Filled::Fill(n)
-}
-
-// The line behind what is filled. A fill past the end leaves no rest.
-pub fn add(out: &mut [u8], fill: usize, line: &[u8]) -> Filled
+// Copies a line behind what is filled, unless it is longer than the rest, and answers the new fill. A fill past the end leaves no rest.
+pub fn add(out: &mut [u8], fill: usize, line: &[u8]) -> Option<usize>
     requires { 1 ≤ length line.now }
     ensures { (result ≡ fill_after out.old fill line.now)
         × (out.new ≡ out_after out.old fill line.now) }
 {
     if out.len() < fill {
-        return Filled::NoRoom;
+        return None;
     }
-    let filled = put(&mut out[fill..], line);
-    match filled {
-        Filled::Fill(n) => Filled::Fill(fill + n),
-        Filled::NoRoom => Filled::NoRoom,
+    let n = line.len();
+    if out.len() - fill < n {
+        return None;
     }
+    let end = fill + n;
+    out[fill..end].copy_from_slice(line);
+    Some(end)
 }

@@ -1,5 +1,5 @@
 -- 27 in one pass: that any two tasks that declare a resource have the same subsystem is that each has that of the first that declares it.
-use mathlib.Core.Path.{◌≡◌, refl, sym, ◌∙◌}
+use mathlib.Core.Path.{◌≡◌, refl, sym, ap, ◌∙◌}
 use mathlib.Core.Bool.{Bool, true, false, not, ◌||◌}
 use Prim.Native.Nat.{ℕ, ◌<◌}
 use native.Mathlib.Omega.{arith}
@@ -10,7 +10,7 @@ use Rattle.plan.specs.declared.Plan.{Plan}
 use Rattle.plan.specs.Plan.{owner, is_global, declares, foremost}
 use Rattle.plan.specs.Ceiling.{local_ceiling}
 use Rattle.plan.specs.Accepted.{one_subsystem}
-use Rattle.plan.specs.Lent.{used_from}
+use Rattle.plan.specs.Parts.{used_from}
 use Rattle.below.proofs.Tests.{same_truth}
 use Rattle.below.proofs.Search.{all_at, all_of, first_most, first_passes}
 
@@ -49,6 +49,6 @@ module _ (n : ℕ) (d : ℕ → Bool) (o : ℕ → ℕ) where
       (λ t. all_of n (λ j. all n (together j)) (λ j hj. all_of n (together j) (pairs t j hj)))
       (λ t. all_of n with_first (each (λ j hj. all_at n (together j) (all_at n (λ i. all n (together i)) t j hj))))
 
-pub one_pass : (p : Plan) (r : ℕ) → is_global p r ≡ false → all p.tasks (used_from p r (owner p (local_ceiling p r))) ≡ one_subsystem p r
+pub one_pass : (p : Plan) (r : ℕ) → one_subsystem p r ≡ (is_global p r || all p.tasks (used_from p r (owner p (local_ceiling p r))))
 unfolding one_subsystem used_from local_ceiling foremost
-one_pass p r e = rw e (with_first_lem p.tasks (λ t. declares p t r) (owner p))
+one_pass p r = ap (λ b. is_global p r || b) (sym (with_first_lem p.tasks (λ t. declares p t r) (owner p)))

@@ -1,80 +1,14 @@
-// "Admission": B, the demand, and the rows whose margin is negative, over lent tables.
-ghost use Rattle.std.specs.Prelude.{◌≡◌, [], ◌<◌, ◌^◌};
-ghost use Rattle.below.specs.Below.{sum};
+// "Admission": B, the demand, and the rows whose margin is negative.
+ghost use Rattle.std.specs.Prelude.{◌≡◌, ◌<◌, ◌^◌};
+ghost use Rattle.below.specs.Below.{greatest, sum};
 ghost use Rattle.below.specs.Quotient.{rounded_up};
-ghost use Rattle.plan.specs.Admission.{blocking, demand};
-ghost use Rattle.plan.specs.Lent.{lent, blocking_at, blocking_by, demand_by};
+ghost use Rattle.plan.specs.Admission.{blocking, demand, margin, first_negative};
+ghost use Rattle.plan.specs.Parts.{blocking_at, demand_by};
 
-use crate::tables::{byte_at, length_at, word_at};
-
-fn blocking_at<'a>(
-    owners: &'a [u8],
-    kinds: &'a [u8],
-    lengths: &'a [u16],
-    s: u8,
-    t: u8,
-    r: u8,
-) -> u16
-    ensures { result ≡ blocking_at (lent 0 0 0 [] [] owners.now kinds.now lengths.now) s t r }
-{
-    if byte_at(kinds, r as usize) != 1 {
-        return 0;
-    }
-    let l = length_at(lengths, t, r);
-    if l == 65535 {
-        return 0;
-    }
-    if byte_at(owners, t as usize) < s {
-        return 0;
-    }
-    l
-}
-
-fn blocking_by<'a>(
-    owners: &'a [u8],
-    kinds: &'a [u8],
-    lengths: &'a [u16],
-    resources: u8,
-    s: u8,
-    t: u8,
-) -> u16
-    ensures { result ≡ blocking_by (lent 0 0 resources [] [] owners.now kinds.now lengths.now) s t }
-{
-    let mut most: u16 = 0;
-    let mut r: u8 = 0;
-    while r < resources {
-        let l = blocking_at(owners, kinds, lengths, s, t, r);
-        if most < l {
-            most = l;
-        }
-        r += 1;
-    }
-    most
-}
-
-pub fn blocking_of<'a>(
-    owners: &'a [u8],
-    kinds: &'a [u8],
-    lengths: &'a [u16],
-    tasks: u8,
-    resources: u8,
-    s: u8,
-) -> u16
-    ensures { result ≡ blocking (lent 0 tasks resources [] [] owners.now kinds.now lengths.now) s }
-{
-    let mut most: u16 = 0;
-    let mut t: u8 = 0;
-    while t < tasks {
-        let l = blocking_by(owners, kinds, lengths, resources, s, t);
-        if most < l {
-            most = l;
-        }
-        t += 1;
-    }
-    most
-}
+use crate::Plan;
 
 // Periods of 0 are read too: the definition divides by 0 to 0.
+#[tactic(auto, unfolding(below::specs::Quotient::rounded_up))]
 fn rounded_up(m: u16, p: u16) -> u64
     ensures value { result ≡ rounded_up m p }
     ensures upper_bound { result < 2 ^ 17 }
@@ -85,46 +19,91 @@ fn rounded_up(m: u16, p: u16) -> u64
     ((m as u64) + ((p as u64) - 1)) / (p as u64)
 }
 
-fn demand_by<'a>(periods: &'a [u16], budgets: &'a [u16], s: u8, h: u8) -> u64
-    ensures value { result ≡ demand_by (lent 0 0 0 periods.now budgets.now [] [] []) s h }
-    ensures upper_bound { result < 2 ^ 33 }
-{
-    if s <= h {
-        return 0;
+impl Plan {
+    // What one pair of a task and a resource counts in B of row s: the length declared, of a global resource by a task of row s or of a later one.
+    #[tactic(auto, unfolding(crate::specs::Parts::blocking_at, crate::specs::Plan::level))]
+    fn blocking_at(&self, s: u8, t: u8, r: u8) -> u16
+        ensures { result ≡ blocking_at self.now s t r }
+    {
+        if self.is_global(r) && self.declares(t, r) && s <= self.owner(t) {
+            self.length(t, r)
+        } else {
+            0
+        }
     }
-    let times = rounded_up(word_at(periods, s as usize), word_at(periods, h as usize));
-    (word_at(budgets, h as usize) as u64) * times
-}
 
-// The demand that the smaller rows add.
-fn demand_before<'a>(periods: &'a [u16], budgets: &'a [u16], subsystems: u8, s: u8) -> u64
-    ensures value { result ≡ sum subsystems (demand_by (lent 0 0 0 periods.now budgets.now [] [] []) s) }
-    ensures upper_bound { result < 2 ^ 41 }
-{
-    let mut total: u64 = 0;
-    let mut h: u8 = 0;
-    while h < subsystems {
-        total += demand_by(periods, budgets, s, h);
-        h += 1;
+    // What one task counts in it.
+    fn blocking_by(&self, s: u8, t: u8) -> u16
+        ensures { result ≡ greatest self.now.resources (blocking_at self.now s t) }
+    {
+        (0..self.resources)
+            .map(|r| self.blocking_at(s, t, r))
+            .max()
+            .unwrap_or(0)
     }
-    total
-}
 
-pub fn demand_of<'a>(
-    periods: &'a [u16],
-    budgets: &'a [u16],
-    owners: &'a [u8],
-    kinds: &'a [u8],
-    lengths: &'a [u16],
-    subsystems: u8,
-    tasks: u8,
-    resources: u8,
-    s: u8,
-) -> u64
-    ensures value { result ≡ demand (lent subsystems tasks resources periods.now budgets.now owners.now kinds.now lengths.now) s }
-    ensures upper_bound { result < 2 ^ 42 }
-{
-    let b = blocking_of(owners, kinds, lengths, tasks, resources, s) as u64;
-    let before = demand_before(periods, budgets, subsystems, s);
-    (word_at(budgets, s as usize) as u64) + b + before
+    // B of a row.
+    pub fn blocking(&self, s: u8) -> u16
+        ensures { result ≡ blocking self.now s }
+    {
+        (0..self.tasks)
+            .map(|t| self.blocking_by(s, t))
+            .max()
+            .unwrap_or(0)
+    }
+
+    // What row h counts in the demand of row s: if it is smaller, its budget once for each of its periods begun in a period of s.
+    #[tactic(auto, unfolding(crate::specs::Parts::demand_by, crate::specs::Plan::level))]
+    fn demand_by(&self, s: u8, h: u8) -> u64
+        ensures value { result ≡ demand_by self.now s h }
+        ensures upper_bound { result < 2 ^ 33 }
+    {
+        if h < s {
+            let times = rounded_up(self.period(s), self.period(h));
+            (self.budget(h) as u64) * times
+        } else {
+            0
+        }
+    }
+
+    // What the rows below `rows` add to the demand of row s.
+    fn demand_before(&self, rows: u8, s: u8) -> u64
+        ensures value { result ≡ sum rows (demand_by self.now s) }
+        ensures upper_bound { result < 2 ^ 41 }
+    {
+        (0..rows).map(|h| self.demand_by(s, h)).sum()
+    }
+
+    // The demand of a row, far below what a number holds.
+    #[tactic(auto, unfolding(crate::specs::Admission::demand, crate::specs::Parts::demand_by))]
+    fn bounded_demand(&self, s: u8) -> u64
+        ensures value { result ≡ demand self.now s }
+        ensures upper_bound { result < 2 ^ 42 }
+    {
+        (self.budget(s) as u64) + (self.blocking(s) as u64) + self.demand_before(self.subsystems, s)
+    }
+
+    // The demand of a row.
+    pub fn demand(&self, s: u8) -> u64
+        ensures { result ≡ demand self.now s }
+    {
+        self.bounded_demand(s)
+    }
+
+    // The period of a row minus its demand.
+    #[tactic(auto, unfolding(crate::specs::Admission::margin), using(crate::proofs::Bounds::difference_fits, crate::proofs::Bounds::difference_is))]
+    pub fn margin(&self, s: u8) -> i64
+        ensures { result ≡ margin self.now s }
+    {
+        (self.period(s) as i64) - (self.bounded_demand(s) as i64)
+    }
+
+    // The first row whose margin is negative; the number of subsystems if none is.
+    pub fn first_negative(&self) -> u8
+        ensures { result ≡ first_negative self.now }
+    {
+        (0..self.subsystems)
+            .find(|s| (self.period(*s) as u64) < self.demand(*s))
+            .unwrap_or(self.subsystems)
+    }
 }

@@ -1,89 +1,75 @@
-// "Ceilings", over lent tables.
-ghost use Rattle.std.specs.Prelude.{◌≡◌, []};
+// "Ceilings".
+ghost use Rattle.std.specs.Prelude.{◌≡◌};
+ghost use Rattle.below.specs.Below.{any};
 ghost use Rattle.below.specs.Listed.{listed};
 ghost use Rattle.plan.specs.Ceiling.{local_ceiling, global_ceiling, ceiling};
-ghost use Rattle.plan.specs.Lent.{lent, declares_at, declared_at};
+ghost use Rattle.plan.specs.Ceiled.{ceiled};
+ghost use Rattle.plan.specs.Parts.{declares_at};
 
-use crate::tables::{byte_at, length_at};
+use crate::{CeiledPlan, Plan};
 
-pub fn local_ceiling(lengths: &[u16], tasks: u8, r: u8) -> u8
-    ensures { result ≡ local_ceiling (lent 0 tasks 0 [] [] [] [] lengths.now) r }
-{
-    let mut t: u8 = 0;
-    while t < tasks {
-        if length_at(lengths, t, r) != 65535 {
-            return t;
+impl Plan {
+    // Of a local resource: the smallest task row that declares it.
+    pub(crate) fn local_ceiling(&self, r: u8) -> u8
+        ensures { result ≡ local_ceiling self.now r }
+    {
+        (0..self.tasks)
+            .find(|t| self.declares(*t, r))
+            .unwrap_or(self.tasks)
+    }
+
+    #[tactic(auto, unfolding(crate::specs::Parts::declares_at, crate::specs::Plan::level))]
+    fn declares_at(&self, r: u8, l: u8, t: u8) -> bool
+        ensures { result ≡ declares_at self.now r l t }
+    {
+        self.owner(t) == l && self.declares(t, r)
+    }
+
+    fn declared_at(&self, r: u8, l: u8) -> bool
+        ensures { result ≡ any self.now.tasks (declares_at self.now r l) }
+    {
+        (0..self.tasks).any(|t| self.declares_at(r, l, t))
+    }
+
+    // Of a global resource: the smallest subsystem row with a task that declares it.
+    fn global_ceiling(&self, r: u8) -> u8
+        ensures { result ≡ global_ceiling self.now r }
+    {
+        (0..self.subsystems)
+            .find(|l| self.declared_at(r, *l))
+            .unwrap_or(self.subsystems)
+    }
+
+    #[tactic(auto, unfolding(crate::specs::Ceiling::ceiling))]
+    fn ceiling(&self, r: u8) -> u8
+        ensures { result ≡ ceiling self.now r }
+    {
+        if self.is_global(r) {
+            self.global_ceiling(r)
+        } else {
+            self.local_ceiling(r)
         }
-        t += 1;
     }
-    t
-}
 
-fn declares_at<'a>(owners: &'a [u8], lengths: &'a [u16], r: u8, l: u8, t: u8) -> bool
-    ensures { result ≡ declares_at (lent 0 0 0 [] [] owners.now [] lengths.now) r l t }
-{
-    if byte_at(owners, t as usize) != l {
-        return false;
-    }
-    length_at(lengths, t, r) != 65535
-}
-
-fn declared_at<'a>(owners: &'a [u8], lengths: &'a [u16], tasks: u8, r: u8, l: u8) -> bool
-    ensures { result ≡ declared_at (lent 0 tasks 0 [] [] owners.now [] lengths.now) r l }
-{
-    let mut t: u8 = 0;
-    while t < tasks {
-        if declares_at(owners, lengths, r, l, t) {
-            return true;
+    // Of all resources, by their rows.
+    pub fn ceilings(&self) -> [u8; 16]
+        ensures { result ≡ listed 16 (ceiling self.now) }
+    {
+        let mut all = [0u8; 16];
+        for r in 0..16u8 {
+            all[r as usize] = self.ceiling(r);
         }
-        t += 1;
+        all
     }
-    false
-}
 
-fn global_ceiling<'a>(owners: &'a [u8], lengths: &'a [u16], subsystems: u8, tasks: u8, r: u8) -> u8
-    ensures { result ≡ global_ceiling (lent subsystems tasks 0 [] [] owners.now [] lengths.now) r }
-{
-    let mut l: u8 = 0;
-    while l < subsystems {
-        if declared_at(owners, lengths, tasks, r, l) {
-            return l;
+    // The plan beside them.
+    pub fn with_ceilings(self) -> CeiledPlan
+        ensures { result ≡ ceiled self }
+    {
+        let ceilings = self.ceilings();
+        CeiledPlan {
+            plan: self,
+            ceilings,
         }
-        l += 1;
     }
-    l
-}
-
-fn ceiling_of<'a>(
-    owners: &'a [u8],
-    kinds: &'a [u8],
-    lengths: &'a [u16],
-    subsystems: u8,
-    tasks: u8,
-    r: u8,
-) -> u8
-    ensures { result ≡ ceiling (lent subsystems tasks 0 [] [] owners.now kinds.now lengths.now) r }
-{
-    if byte_at(kinds, r as usize) == 1 {
-        return global_ceiling(owners, lengths, subsystems, tasks, r);
-    }
-    local_ceiling(lengths, tasks, r)
-}
-
-pub fn ceilings_of<'a>(
-    owners: &'a [u8],
-    kinds: &'a [u8],
-    lengths: &'a [u16],
-    subsystems: u8,
-    tasks: u8,
-) -> [u8; 16]
-    ensures { result ≡ listed 16 (ceiling (lent subsystems tasks 0 [] [] owners.now kinds.now lengths.now)) }
-{
-    let mut all = [0u8; 16];
-    let mut r: u8 = 0;
-    while r < 16 {
-        all[r as usize] = ceiling_of(owners, kinds, lengths, subsystems, tasks, r);
-        r += 1;
-    }
-    all
 }

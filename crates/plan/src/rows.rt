@@ -1,114 +1,71 @@
 // The listed conditions on the rows of a plan: 23 and 29 on the counts, 25 on subsystems, 24 on tasks, and the kinds of resources.
-ghost use Rattle.std.specs.Prelude.{◌≡◌, []};
+ghost use Rattle.std.specs.Prelude.{◌≡◌};
 ghost use Rattle.below.specs.Below.{all};
 ghost use Rattle.plan.specs.Limits.{most_subsystems, most_tasks, most_resources};
 ghost use Rattle.plan.specs.Accepted.{counts_fit, subsystem_fits, task_fits, resource_fits};
-ghost use Rattle.plan.specs.Lent.{lent};
 
-use crate::tables::{byte_at, word_at};
+use crate::Plan;
 
-pub fn counts_fit(subsystems: u8, tasks: u8, resources: u8) -> bool
-    ensures { result ≡ counts_fit (lent subsystems tasks resources [] [] [] [] []) }
-{
-    if subsystems < 1 {
-        return false;
+impl Plan {
+    #[tactic(auto, unfolding(crate::specs::Accepted::counts_fit))]
+    pub(crate) fn counts_fit(&self) -> bool
+        ensures { result ≡ counts_fit self.now }
+    {
+        1 <= self.subsystems && self.subsystems <= 8 && self.tasks <= 32 && self.resources <= 16
     }
-    if 8 < subsystems {
-        return false;
-    }
-    if 32 < tasks {
-        return false;
-    }
-    resources <= 16
-}
 
-fn subsystem_fits<'a>(periods: &'a [u16], budgets: &'a [u16], subsystems: u8, s: u8) -> bool
-    ensures { result ≡ subsystem_fits (lent subsystems 0 0 periods.now budgets.now [] [] []) s }
-{
-    let period = word_at(periods, s as usize);
-    let budget = word_at(budgets, s as usize);
-    if subsystems <= s {
-        if period != 0 {
-            return false;
+    #[tactic(auto, unfolding(crate::specs::Accepted::subsystem_fits))]
+    fn subsystem_fits(&self, s: u8) -> bool
+        ensures { result ≡ subsystem_fits self.now s }
+    {
+        let period = self.period(s);
+        let budget = self.budget(s);
+        if s < self.subsystems {
+            1 <= period && period <= 10000 && 1 <= budget && budget <= period
+        } else {
+            period == 0 && budget == 0
         }
-        return budget == 0;
     }
-    if period < 1 {
-        return false;
-    }
-    if 10000 < period {
-        return false;
-    }
-    if budget < 1 {
-        return false;
-    }
-    if period < budget {
-        return false;
-    }
-    true
-}
 
-pub fn subsystems_fit<'a>(periods: &'a [u16], budgets: &'a [u16], subsystems: u8) -> bool
-    ensures { result ≡ all most_subsystems (subsystem_fits (lent subsystems 0 0 periods.now budgets.now [] [] [])) }
-{
-    let mut s: u8 = 0;
-    while s < 8 {
-        if !subsystem_fits(periods, budgets, subsystems, s) {
-            return false;
+    pub(crate) fn subsystems_fit(&self) -> bool
+        ensures { result ≡ all most_subsystems (subsystem_fits self.now) }
+    {
+        (0..8).all(|s| self.subsystem_fits(s))
+    }
+
+    #[tactic(auto, unfolding(crate::specs::Accepted::task_fits))]
+    fn task_fits(&self, t: u8) -> bool
+        ensures { result ≡ task_fits self.now t }
+    {
+        let owner = self.owner(t);
+        if t < self.tasks {
+            owner < self.subsystems
+        } else {
+            owner == 0
         }
-        s += 1;
     }
-    true
-}
 
-fn task_fits(owners: &[u8], subsystems: u8, tasks: u8, t: u8) -> bool
-    ensures { result ≡ task_fits (lent subsystems tasks 0 [] [] owners.now [] []) t }
-{
-    let owner = byte_at(owners, t as usize);
-    if tasks <= t {
-        return owner == 0;
+    pub(crate) fn tasks_fit(&self) -> bool
+        ensures { result ≡ all most_tasks (task_fits self.now) }
+    {
+        (0..32).all(|t| self.task_fits(t))
     }
-    if subsystems <= owner {
-        return false;
-    }
-    true
-}
 
-pub fn tasks_fit(owners: &[u8], subsystems: u8, tasks: u8) -> bool
-    ensures { result ≡ all most_tasks (task_fits (lent subsystems tasks 0 [] [] owners.now [] [])) }
-{
-    let mut t: u8 = 0;
-    while t < 32 {
-        if !task_fits(owners, subsystems, tasks, t) {
-            return false;
+    #[tactic(auto, unfolding(crate::specs::Accepted::resource_fits))]
+    fn resource_fits(&self, r: u8) -> bool
+        ensures { result ≡ resource_fits self.now r }
+    {
+        let kind = self.kinds.get(r as usize).copied().unwrap_or(0);
+        if r < self.resources {
+            kind <= 1
+        } else {
+            kind == 0
         }
-        t += 1;
     }
-    true
-}
 
-fn resource_fits(kinds: &[u8], resources: u8, r: u8) -> bool
-    ensures { result ≡ resource_fits (lent 0 0 resources [] [] [] kinds.now []) r }
-{
-    let kind = byte_at(kinds, r as usize);
-    if resources <= r {
-        return kind == 0;
+    pub(crate) fn resources_fit(&self) -> bool
+        ensures { result ≡ all most_resources (resource_fits self.now) }
+    {
+        (0..16).all(|r| self.resource_fits(r))
     }
-    if 1 < kind {
-        return false;
-    }
-    true
-}
-
-pub fn resources_fit(kinds: &[u8], resources: u8) -> bool
-    ensures { result ≡ all most_resources (resource_fits (lent 0 0 resources [] [] [] kinds.now [])) }
-{
-    let mut r: u8 = 0;
-    while r < 16 {
-        if !resource_fits(kinds, resources, r) {
-            return false;
-        }
-        r += 1;
-    }
-    true
 }

@@ -1,160 +1,72 @@
 // The listed conditions on pairs of a task and a resource: 25 and 28 on declared lengths, and 27.
-ghost use Rattle.std.specs.Prelude.{◌≡◌, []};
+ghost use Rattle.std.specs.Prelude.{◌≡◌};
 ghost use Rattle.below.specs.Below.{all};
-ghost use Rattle.plan.specs.Limits.{most_tasks};
+ghost use Rattle.plan.specs.Limits.{most_tasks, most_resources};
 ghost use Rattle.plan.specs.Accepted.{length_fits, use_fits, one_subsystem};
-ghost use Rattle.plan.specs.Lent.{lent, task_uses_fit, used_from};
+ghost use Rattle.plan.specs.Parts.{used_from};
 
-use crate::ceiling::local_ceiling;
-use crate::tables::{byte_at, length_at, word_at};
+use crate::Plan;
 
-fn length_fits<'a>(
-    budgets: &'a [u16],
-    owners: &'a [u8],
-    kinds: &'a [u8],
-    lengths: &'a [u16],
-    t: u8,
-    r: u8,
-) -> bool
-    ensures { result ≡ length_fits (lent 0 0 0 [] budgets.now owners.now kinds.now lengths.now) t r }
-{
-    let length = length_at(lengths, t, r);
-    if byte_at(kinds, r as usize) != 1 {
-        return length == 0;
-    }
-    if length < 1 {
-        return false;
-    }
-    if 10000 < length {
-        return false;
-    }
-    if word_at(budgets, byte_at(owners, t as usize) as usize) < length {
-        return false;
-    }
-    true
-}
-
-fn use_fits<'a>(
-    budgets: &'a [u16],
-    owners: &'a [u8],
-    kinds: &'a [u8],
-    lengths: &'a [u16],
-    tasks: u8,
-    resources: u8,
-    t: u8,
-    r: u8,
-) -> bool
-    ensures { result ≡ use_fits (lent 0 tasks resources [] budgets.now owners.now kinds.now lengths.now) t r }
-{
-    let length = length_at(lengths, t, r);
-    if tasks <= t {
-        return length == 0;
-    }
-    if resources <= r {
-        return length == 0;
-    }
-    if length == 65535 {
-        return true;
-    }
-    length_fits(budgets, owners, kinds, lengths, t, r)
-}
-
-fn task_uses_fit<'a>(
-    budgets: &'a [u16],
-    owners: &'a [u8],
-    kinds: &'a [u8],
-    lengths: &'a [u16],
-    tasks: u8,
-    resources: u8,
-    t: u8,
-) -> bool
-    ensures { result ≡ task_uses_fit (lent 0 tasks resources [] budgets.now owners.now kinds.now lengths.now) t }
-{
-    let mut r: u8 = 0;
-    while r < 16 {
-        if !use_fits(budgets, owners, kinds, lengths, tasks, resources, t, r) {
-            return false;
+impl Plan {
+    #[tactic(auto, unfolding(crate::specs::Accepted::length_fits))]
+    fn length_fits(&self, t: u8, r: u8) -> bool
+        ensures { result ≡ length_fits self.now t r }
+    {
+        let length = self.length(t, r);
+        if self.is_global(r) {
+            1 <= length && length <= 10000 && length <= self.budget(self.owner(t))
+        } else {
+            length == 0
         }
-        r += 1;
     }
-    true
-}
 
-pub fn lengths_fit<'a>(
-    budgets: &'a [u16],
-    owners: &'a [u8],
-    kinds: &'a [u8],
-    lengths: &'a [u16],
-    tasks: u8,
-    resources: u8,
-) -> bool
-    ensures { result ≡ all most_tasks (task_uses_fit (lent 0 tasks resources [] budgets.now owners.now kinds.now lengths.now)) }
-{
-    let mut t: u8 = 0;
-    while t < 32 {
-        if !task_uses_fit(budgets, owners, kinds, lengths, tasks, resources, t) {
-            return false;
+    #[tactic(auto, unfolding(crate::specs::Accepted::use_fits))]
+    fn use_fits(&self, t: u8, r: u8) -> bool
+        ensures { result ≡ use_fits self.now t r }
+    {
+        if t < self.tasks && r < self.resources {
+            !self.declares(t, r) || self.length_fits(t, r)
+        } else {
+            self.length(t, r) == 0
         }
-        t += 1;
     }
-    true
-}
 
-fn used_from<'a>(owners: &'a [u8], lengths: &'a [u16], r: u8, s: u8, t: u8) -> bool
-    ensures { result ≡ used_from (lent 0 0 0 [] [] owners.now [] lengths.now) r s t }
-{
-    if length_at(lengths, t, r) == 65535 {
-        return true;
+    fn task_uses_fit(&self, t: u8) -> bool
+        ensures { result ≡ all most_resources (use_fits self.now t) }
+    {
+        (0..16).all(|r| self.use_fits(t, r))
     }
-    s == byte_at(owners, t as usize)
-}
 
-fn all_used_from<'a>(owners: &'a [u8], lengths: &'a [u16], tasks: u8, r: u8, s: u8) -> bool
-    ensures { result ≡ all tasks (used_from (lent 0 0 0 [] [] owners.now [] lengths.now) r s) }
-{
-    let mut t: u8 = 0;
-    while t < tasks {
-        if !used_from(owners, lengths, r, s, t) {
-            return false;
-        }
-        t += 1;
+    pub(crate) fn lengths_fit(&self) -> bool
+        ensures { result ≡ all most_tasks (λ t. all most_resources (use_fits self.now t)) }
+    {
+        (0..32).all(|t| self.task_uses_fit(t))
     }
-    true
-}
 
-// The first task that declares a local resource has some subsystem, and every other that declares it has the same.
-fn one_subsystem<'a>(
-    owners: &'a [u8],
-    kinds: &'a [u8],
-    lengths: &'a [u16],
-    tasks: u8,
-    r: u8,
-) -> bool
-    ensures { result ≡ one_subsystem (lent 0 tasks 0 [] [] owners.now kinds.now lengths.now) r }
-{
-    if byte_at(kinds, r as usize) == 1 {
-        return true;
+    #[tactic(auto, unfolding(crate::specs::Parts::used_from))]
+    fn used_from(&self, r: u8, s: u8, t: u8) -> bool
+        ensures { result ≡ used_from self.now r s t }
+    {
+        !self.declares(t, r) || s == self.owner(t)
     }
-    let first = local_ceiling(lengths, tasks, r);
-    let s = byte_at(owners, first as usize);
-    all_used_from(owners, lengths, tasks, r, s)
-}
 
-pub fn one_subsystem_each<'a>(
-    owners: &'a [u8],
-    kinds: &'a [u8],
-    lengths: &'a [u16],
-    tasks: u8,
-    resources: u8,
-) -> bool
-    ensures { result ≡ all resources (one_subsystem (lent 0 tasks 0 [] [] owners.now kinds.now lengths.now)) }
-{
-    let mut r: u8 = 0;
-    while r < resources {
-        if !one_subsystem(owners, kinds, lengths, tasks, r) {
-            return false;
-        }
-        r += 1;
+    fn all_used_from(&self, r: u8, s: u8) -> bool
+        ensures { result ≡ all self.now.tasks (used_from self.now r s) }
+    {
+        (0..self.tasks).all(|t| self.used_from(r, s, t))
     }
-    true
+
+    // The first task that declares a local resource has some subsystem, and every other that declares it has the same.
+    #[tactic(auto, using(crate::proofs::OneSubsystem::one_pass))]
+    fn one_subsystem(&self, r: u8) -> bool
+        ensures { result ≡ one_subsystem self.now r }
+    {
+        self.is_global(r) || self.all_used_from(r, self.owner(self.local_ceiling(r)))
+    }
+
+    pub(crate) fn one_subsystem_each(&self) -> bool
+        ensures { result ≡ all self.now.resources (one_subsystem self.now) }
+    {
+        (0..self.resources).all(|r| self.one_subsystem(r))
+    }
 }

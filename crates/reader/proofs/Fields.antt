@@ -2,7 +2,7 @@
 use mathlib.Core.Path.{◌≡◌, refl, ◌∙◌}
 use mathlib.Core.Bool.{Bool, true, false}
 use mathlib.Core.List.{List, [], ◌∷◌}
-use mathlib.Core.Option.{Option, none, some, map}
+use Rattle.std.proofs.Common.{Option, None, Some, option_map}
 use Prim.Native.Nat.{ℕ, ◌+◌, ◌-◌, ◌≤◌, ◌<◌}
 use native.Mathlib.Nat.{le_of_eq}
 use native.Mathlib.Numerals.{add-one}
@@ -12,8 +12,6 @@ use lib.ListN.{length, take, drop, length-drop}
 use lib.Seq.{take_all}
 use borrow.Author.Tests.{ltb-true, ltb-false}
 use Rattle.text.specs.Lines.{until, fields, tab}
-use Rattle.text.specs.declared.Number.{Number}
-use Rattle.text.specs.declared.Number.TheVariants.{Written, Nothing}
 use Rattle.text.specs.Numbers.{number, numbers, of_one, of_two, of_three}
 use Rattle.text.proofs.Parted.{Parted, Whole, parted, whole}
 use Rattle.text.proofs.Lines.{fields_tab, fields_whole}
@@ -31,37 +29,37 @@ tab_or_none {C} s p w = go (ltb (until tab s) (length s)) refl
     go false e = w (whole tab s (ltb-false (until tab s) (length s) e))
 
 -- a field writes a number or none
-pub written_or_none : {C : Type 0} (f : List ℕ) → ((n : ℕ) → number f ≡ Written n → C) → (number f ≡ Nothing → C) → C
+pub written_or_none : {C : Type 0} (f : List ℕ) → ((n : ℕ) → number f ≡ Some n → C) → (number f ≡ None → C) → C
 written_or_none {C} f w z = go (number f) refl
   where
-    go : (x : Number) → number f ≡ x → C
-    go (Written n) e = w n e
-    go Nothing e = z e
+    go : (x : Option ℕ) → number f ≡ x → C
+    go (Some n) e = w n e
+    go None e = z e
 
 module _ (f : List ℕ) (fs : List (List ℕ)) where
   -- a field that writes no number spoils the line
-  pub field_not : (g : List ℕ → Line) → number f ≡ Nothing → of_numbers g (f ∷ fs) ≡ Malformed
+  pub field_not : (g : List ℕ → Line) → number f ≡ None → of_numbers g (f ∷ fs) ≡ Malformed
   unfolding of_numbers numbers
   field_not g e = rw (of_numbers, numbers, e)
 
   -- one that does leaves the fields behind it
-  pub field_next : (g h : List ℕ → Line) {n : ℕ} → number f ≡ Written n → ((ns : List ℕ) → g (n ∷ ns) ≡ h ns)
+  pub field_next : (g h : List ℕ → Line) {n : ℕ} → number f ≡ Some n → ((ns : List ℕ) → g (n ∷ ns) ≡ h ns)
       → of_numbers g (f ∷ fs) ≡ of_numbers h fs
   unfolding of_numbers numbers
   field_next g h {n} e q = rw (of_numbers, numbers, e) (go (numbers fs))
     where
       go : (o : Option (List ℕ))
-          → ◌≡◌ {A = Line} (elim (map (λ ns. n ∷ ns) o) [ none ↦ Malformed | some ns ↦ g ns ]) (elim o [ none ↦ Malformed | some ns ↦ h ns ])
-      go none = refl
-      go (some ns) = q ns
+          → ◌≡◌ {A = Line} (elim (option_map (λ ns. n ∷ ns) o) [ None ↦ Malformed | Some ns ↦ g ns ]) (elim o [ None ↦ Malformed | Some ns ↦ h ns ])
+      go None = refl
+      go (Some ns) = q ns
 
 flat : (fs : List (List ℕ)) → of_numbers (λ ns. Malformed) fs ≡ Malformed
 unfolding of_numbers
 flat fs = go (numbers fs)
   where
-    go : (o : Option (List ℕ)) → elim o [ none ↦ Malformed | some ns ↦ Malformed ] ≡ Malformed
-    go none = refl
-    go (some ns) = refl
+    go : (o : Option (List ℕ)) → elim o [ None ↦ Malformed | Some ns ↦ Malformed ] ≡ Malformed
+    go None = refl
+    go (Some ns) = refl
 
 -- where no number is wanted any more, a field is one too many
 module _ (g : List ℕ → Line) (q : (n : ℕ) (ns : List ℕ) → g (n ∷ ns) ≡ Malformed) where
@@ -80,11 +78,11 @@ too_few g q {s} w = rw (fields_whole w) (written_or_none s (λ n e. field_next s
 
 -- the last field is all that is left: a tab in it makes it no number
 module _ (F : ℕ → Line) (s : List ℕ) where
-  pub last_written : {n : ℕ} → number s ≡ Written n → of_numbers (of_one Malformed F) (fields s) ≡ F n
+  pub last_written : {n : ℕ} → number s ≡ Some n → of_numbers (of_one Malformed F) (fields s) ≡ F n
   unfolding of_one of_numbers numbers
   last_written e = tab_or_none s (λ p. cc (number_tab p)) (λ w. rw (fields_whole w) (field_next s [] (of_one Malformed F) (λ ns. of_one Malformed F (_ ∷ ns)) e (λ ns. refl)))
 
-  pub last_not : number s ≡ Nothing → of_numbers (of_one Malformed F) (fields s) ≡ Malformed
+  pub last_not : number s ≡ None → of_numbers (of_one Malformed F) (fields s) ≡ Malformed
   unfolding of_one
   last_not e =
       tab_or_none s
@@ -112,7 +110,7 @@ three_two F n (m ∷ k ∷ l ∷ ns) = refl
 pub to_the_end : (k : ℕ) (s : List ℕ) → take (length s - k) (drop k s) ≡ drop k s
 to_the_end k s = take_all (length s - k) (drop k s) (le_of_eq (length-drop k s))
 
--- as the code has it: the first tab was found at m
+-- as the code has it: the first tab was found at m, and rest stands behind it
 module _ (s : List ℕ) (m : ℕ) (e : m ≡ 0 + until tab s) where
   pub none_found : length s ≤ m → Whole tab s
   none_found h = whole tab s (omega arith)
@@ -123,9 +121,9 @@ module _ (s : List ℕ) (m : ℕ) (e : m ≡ 0 + until tab s) where
       rw add-one (rw q at (fields_tab (parted tab s (omega arith))))
 
   module _ (h : m < length s) (g : List ℕ → Line) where
-    pub first_not : number (take m s) ≡ Nothing → of_numbers g (fields s) ≡ Malformed
+    pub first_not : number (take m s) ≡ None → of_numbers g (fields s) ≡ Malformed
     first_not z = rw (fields_found h) (field_not _ _ g z)
 
-    pub first_next : (g' : List ℕ → Line) {n : ℕ} → number (take m s) ≡ Written n → ((ns : List ℕ) → g (n ∷ ns) ≡ g' ns)
-        → of_numbers g (fields s) ≡ of_numbers g' (fields (take (length s - (m + 1)) (drop (m + 1) s)))
-    first_next g' z q = rw (fields_found h, to_the_end (m + 1) s) (field_next _ _ g g' z q)
+    pub first_next : (g' : List ℕ → Line) {n : ℕ} {rest : List ℕ} → rest ≡ take (length s - (m + 1)) (drop (m + 1) s) → number (take m s) ≡ Some n
+        → ((ns : List ℕ) → g (n ∷ ns) ≡ g' ns) → of_numbers g (fields s) ≡ of_numbers g' (fields rest)
+    first_next g' r z q = rw (fields_found h, r, to_the_end (m + 1) s) (field_next _ _ g g' z q)

@@ -2,7 +2,7 @@
 use mathlib.Core.Path.{◌≡◌, refl, sym, ap, ◌∙◌}
 use mathlib.Core.Bool.{true, false}
 use mathlib.Core.List.{List, [], ◌∷◌}
-use mathlib.Core.Option.{none, some}
+use Rattle.std.proofs.Common.{None, Some}
 use Prim.Native.Nat.{ℕ, suc, ◌+◌, ◌-◌, ◌≤◌, ◌<◌}
 use native.Mathlib.Omega.{arith}
 use lib.ListN.{length, take, drop, length-drop, drop_of_length-le}
@@ -21,11 +21,11 @@ use Rattle.reader.specs.Reading.{judged, with_line, refused, read_from}
 use Rattle.reader.proofs.Judged.{judged_grammar}
 
 -- a line with its line feed is read as its body is, one without as nothing
-line_ended : (l : List ℕ) {b : List ℕ} → body l ≡ some b → line_of l ≡ of_fields (fields b)
+line_ended : (l : List ℕ) {b : List ℕ} → body l ≡ Some b → line_of l ≡ of_fields (fields b)
 unfolding line_of
 line_ended l e = rw (line_of, e)
 
-line_unended : (l : List ℕ) → body l ≡ none → line_of l ≡ Malformed
+line_unended : (l : List ℕ) → body l ≡ None → line_of l ≡ Malformed
 unfolding line_of
 line_unended l e = rw (line_of, e)
 

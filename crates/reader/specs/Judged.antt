@@ -1,8 +1,6 @@
 -- The tests of a line behind 21 and 22, in the order of the table.
-use Rattle.std.specs.Prelude.{Bool, not, ◌&&◌, List, [], ◌∷◌, ℕ, eqb, get_or}
+use Rattle.std.specs.Prelude.{[], ◌∷◌, ℕ}
 use Rattle.plan.specs.declared.Plan.{Plan}
-use Rattle.plan.specs.Limits.{undeclared}
-use Rattle.plan.specs.Plan.{place}
 use Rattle.reader.specs.declared.Verdict.{Verdict}
 use Rattle.reader.specs.declared.Verdict.TheVariants.{TooManyRows, NoSuchRow, OutOfRange, Twice, TwoSubsystems, AboveBudget}
 use Rattle.reader.specs.declared.Line.{Line}
@@ -19,7 +17,3 @@ judged_rows p n l =
     ∷ (two_subsystems p l, TwoSubsystems n)
     ∷ (above_budget p l, AboveBudget n)
     ∷ [])
-
--- 27: task k declared the resource, and its subsystem is not owner
-unfoldable pub apart_at : List ℕ → List ℕ → ℕ → ℕ → ℕ → Bool
-apart_at owners lengths resource owner k = not (eqb (get_or lengths (place k resource) 0) undeclared) && not (eqb (get_or owners k 0) owner)

@@ -5,5 +5,4 @@ pub mod Reading
 pub mod Margin
 pub mod Pair
 pub mod Judged
-pub mod Parts
 pub mod Room

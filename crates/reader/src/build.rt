@@ -1,32 +1,21 @@
-// "The plan text": rows count from 0 in the order of their lines. The plan grows by a line that was accepted: its rows go by value, its lengths stand
-// in one table that is altered in place.
-ghost use Rattle.std.specs.Prelude.{◌≡◌, List, ℕ, ◌≤◌, ◌<◌, length, set, replicate};
+// "The plan text": rows count from 0 in the order of their lines. The plan grows in place by a line that was accepted.
+#![tactic(auto, unfolding(
+    crate::specs::Reading::empty_plan, crate::specs::Reading::with_subsystem, crate::specs::Reading::with_task, crate::specs::Reading::with_resource,
+    crate::specs::Reading::with_use, crate::specs::Reading::with_line, plan::specs::Plan::place
+))]
+ghost use Rattle.std.specs.Prelude.{◌≡◌, ◌≤◌, ◌<◌, set};
 ghost use Rattle.plan.specs.Limits.{most_subsystems, most_tasks, most_resources};
-ghost use Rattle.plan.specs.Plan.{place};
-ghost use Rattle.reader.specs.Reading.{empty_plan, opened, with_subsystem, with_task, with_resource, with_line};
-ghost use Rattle.reader.specs.Parts.{places, plan_of};
+ghost use Rattle.reader.specs.Reading.{empty_plan, opened, with_subsystem, with_task, with_resource, with_use, with_line};
 ghost use Rattle.reader.specs.Room.{Room};
 
 use crate::Line;
 use plan::Plan;
 
-// A plan without its lengths.
-#[derive(Clone, Copy)]
-pub struct Tables {
-    pub subsystems: u8,
-    pub tasks: u8,
-    pub resources: u8,
-    pub periods: [u16; 8],
-    pub budgets: [u16; 8],
-    pub owners: [u8; 32],
-    pub kinds: [u8; 16],
-}
-
-// The rows of no line at all.
-pub fn no_rows() -> Tables
-    ensures { plan_of result (replicate places 0) ≡ empty_plan }
+// The plan of no line at all.
+pub fn empty_plan() -> Plan
+    ensures { result ≡ empty_plan }
 {
-    Tables {
+    Plan {
         subsystems: 0,
         tasks: 0,
         resources: 0,
@@ -34,112 +23,75 @@ pub fn no_rows() -> Tables
         budgets: [0; 8],
         owners: [0; 32],
         kinds: [0; 16],
+        lengths: [0; 512],
     }
-}
-
-// Rows and lengths in one.
-pub fn plan_of(t: Tables, lengths: [u16; 512]) -> Plan
-    ensures { result ≡ plan_of t lengths }
-{
-    let periods = t.periods;
-    let budgets = t.budgets;
-    let owners = t.owners;
-    let kinds = t.kinds;
-    Plan {
-        subsystems: t.subsystems,
-        tasks: t.tasks,
-        resources: t.resources,
-        periods,
-        budgets,
-        owners,
-        kinds,
-        lengths,
-    }
-}
-
-// The plan of no line at all.
-pub fn empty_plan() -> Plan
-    ensures { result ≡ empty_plan }
-{
-    let lengths = [0u16; 512];
-    plan_of(no_rows(), lengths)
 }
 
 // S
-fn with_subsystem(mut t: Tables, period: u16, budget: u16) -> Tables
-    requires { t.subsystems < most_subsystems }
-    ensures { (ls : List ℕ) → plan_of result ls ≡ with_subsystem (plan_of t ls) period budget }
+fn with_subsystem(p: &mut Plan, period: u16, budget: u16)
+    requires { p.old.subsystems < most_subsystems }
+    ensures { p.new ≡ with_subsystem p.old period budget }
 {
-    let i = t.subsystems as usize;
-    t.periods[i] = period;
-    t.budgets[i] = budget;
-    t.subsystems += 1;
-    t
+    let row = p.subsystems as usize;
+    p.periods[row] = period;
+    p.budgets[row] = budget;
+    p.subsystems += 1;
 }
 
 // T
-fn with_task(mut t: Tables, subsystem: u8) -> Tables
-    requires { t.tasks < most_tasks }
-    ensures { (ls : List ℕ) → plan_of result ls ≡ with_task (plan_of t ls) subsystem }
+fn with_task(p: &mut Plan, subsystem: u8)
+    requires { p.old.tasks < most_tasks }
+    ensures { p.new ≡ with_task p.old subsystem }
 {
-    let i = t.tasks as usize;
-    t.owners[i] = subsystem;
-    t.tasks += 1;
-    t
-}
-
-// R, its row
-fn with_resource(mut t: Tables, kind: u8) -> Tables
-    requires { t.resources < most_resources }
-    ensures { (ls : List ℕ) → plan_of result (opened t.tasks t.resources ls) ≡ with_resource (plan_of t ls) kind }
-{
-    let i = t.resources as usize;
-    t.kinds[i] = kind;
-    t.resources += 1;
-    t
+    let row = p.tasks as usize;
+    p.owners[row] = subsystem;
+    p.tasks += 1;
 }
 
 // R, its lengths: a new resource is undeclared by each task.
-fn open(lengths: &mut [u16], tasks: u8, r: u8)
-    requires { (length lengths.old ≡ places) × (tasks ≤ most_tasks) × (r < most_resources) }
+fn open(lengths: &mut [u16; 512], tasks: u8, r: u8)
+    requires { (tasks ≤ most_tasks) × (r < most_resources) }
     ensures { lengths.new ≡ opened tasks r lengths.old }
 {
-    let mut t: u8 = 0;
-    while t < tasks {
-        let i = (t as usize) * 16 + (r as usize);
-        lengths[i] = 65535;
-        t += 1;
+    for t in 0..tasks {
+        lengths[(t as usize) * 16 + (r as usize)] = 65535;
     }
 }
 
-// U
-fn put_use(lengths: &mut [u16], task: u32, resource: u32, ticks: u16)
-    requires { (length lengths.old ≡ places) × (task < most_tasks) × (resource < most_resources) }
-    ensures { lengths.new ≡ set lengths.old (place task resource) ticks }
+// R
+fn with_resource(p: &mut Plan, kind: u8)
+    requires { (p.old.resources < most_resources) × (p.old.tasks ≤ most_tasks) }
+    ensures { p.new ≡ with_resource p.old kind }
 {
-    let i = (task as usize) * 16 + (resource as usize);
-    lengths[i] = ticks;
+    let tasks = p.tasks;
+    let row = p.resources;
+    open(&mut p.lengths, tasks, row);
+    p.kinds[row as usize] = kind;
+    p.resources += 1;
 }
 
-pub fn with_line(t: Tables, lengths: &mut [u16], l: Line) -> Tables
-    requires { (length lengths.old ≡ places) × Room (plan_of t lengths.old) l }
-    ensures { plan_of result lengths.new ≡ with_line (plan_of t lengths.old) l }
+// U
+fn with_use(p: &mut Plan, task: u32, resource: u32, ticks: u16)
+    requires { (task < most_tasks) × (resource < most_resources) }
+    ensures { p.new ≡ with_use p.old task resource ticks }
+{
+    let place = (task as usize) * 16 + (resource as usize);
+    p.lengths[place] = ticks;
+}
+
+pub fn with_line(p: &mut Plan, l: Line)
+    requires { Room p.old l }
+    ensures { p.new ≡ with_line p.old l }
 {
     match l {
-        Line::Subsystem { period, budget } => with_subsystem(t, period as u16, budget as u16),
-        Line::Task { subsystem } => with_task(t, subsystem as u8),
-        Line::Resource { kind } => {
-            open(lengths, t.tasks, t.resources);
-            with_resource(t, kind)
-        }
+        Line::Subsystem { period, budget } => with_subsystem(p, period as u16, budget as u16),
+        Line::Task { subsystem } => with_task(p, subsystem as u8),
+        Line::Resource { kind } => with_resource(p, kind),
         Line::Uses {
             task,
             resource,
             length,
-        } => {
-            put_use(lengths, task, resource, length as u16);
-            t
-        }
-        Line::Malformed => t,
+        } => with_use(p, task, resource, length as u16),
+        Line::Malformed => {}
     }
 }

@@ -1,204 +1,124 @@
 // "Admission", its table: what is said of one line over the plan read so far. The tests stand in the order of the table.
-ghost use Rattle.std.specs.Prelude.{◌≡◌, [], ℕ};
-ghost use Rattle.below.specs.Below.{any};
-ghost use Rattle.plan.specs.declared.Plan.{Plan};
-ghost use Rattle.plan.specs.Plan.{declares};
-ghost use Rattle.plan.specs.Lent.{lent};
+#![tactic(auto, using(std::proofs::lemmas::Bool::Decides::nat_tests), unfolding(
+    crate::specs::Reading::judged, crate::specs::Judged::judged_rows, crate::specs::Reading::first_of,
+    crate::specs::Conditions::not_grammar, crate::specs::Conditions::kind_order, crate::specs::Conditions::too_many_rows, crate::specs::Conditions::no_such_row,
+    crate::specs::Conditions::out_of_range, crate::specs::Conditions::twice, crate::specs::Conditions::two_subsystems, crate::specs::Conditions::above_budget
+))]
+ghost use Rattle.std.specs.Prelude.{◌≡◌, ℕ};
 ghost use Rattle.reader.specs.Conditions.{out_of_range, two_subsystems, above_budget};
 ghost use Rattle.reader.specs.Reading.{judged};
-ghost use Rattle.reader.specs.Judged.{judged_rows, apart_at};
-ghost use Rattle.reader.specs.Parts.{plan_of};
+ghost use Rattle.reader.specs.Judged.{judged_rows};
 
-use crate::build::Tables;
 use crate::grammar::kind_of;
 use crate::{Line, Verdict};
-use plan::tables::{byte_at, word_at};
+use plan::Plan;
 
 // S
-fn judge_subsystem(subsystems: u8, n: u32, period: u32, budget: u32) -> Verdict
-    ensures { (p : Plan) → p.subsystems ≡ subsystems → result ≡ judged_rows p n (Line.Subsystem period budget) }
+fn judge_subsystem(p: &Plan, n: u32, period: u32, budget: u32) -> Verdict
+    ensures { result ≡ judged_rows p.now n (Line.Subsystem period budget) }
 {
-    if 8 <= subsystems {
+    if 8 <= p.subsystems {
         return Verdict::TooManyRows(n);
     }
-    if period < 1 {
-        return Verdict::OutOfRange(n);
-    }
-    if 10000 < period {
-        return Verdict::OutOfRange(n);
-    }
-    if budget < 1 {
-        return Verdict::OutOfRange(n);
-    }
-    if period < budget {
+    if period < 1 || 10000 < period || budget < 1 || period < budget {
         return Verdict::OutOfRange(n);
     }
     Verdict::Accepted
 }
 
 // T
-fn judge_task(subsystems: u8, tasks: u8, n: u32, subsystem: u32) -> Verdict
-    ensures { (p : Plan) → p.subsystems ≡ subsystems → p.tasks ≡ tasks → result ≡ judged_rows p n (Line.Task subsystem) }
+fn judge_task(p: &Plan, n: u32, subsystem: u32) -> Verdict
+    ensures { result ≡ judged_rows p.now n (Line.Task subsystem) }
 {
-    if 32 <= tasks {
+    if 32 <= p.tasks {
         return Verdict::TooManyRows(n);
     }
-    if (subsystems as u32) <= subsystem {
+    if (p.subsystems as u32) <= subsystem {
         return Verdict::NoSuchRow(n);
     }
     Verdict::Accepted
 }
 
 // R
-fn judge_resource(resources: u8, n: u32, kind: u8) -> Verdict
-    ensures { (p : Plan) → p.resources ≡ resources → result ≡ judged_rows p n (Line.Resource kind) }
+fn judge_resource(p: &Plan, n: u32, kind: u8) -> Verdict
+    ensures { result ≡ judged_rows p.now n (Line.Resource kind) }
 {
-    if 16 <= resources {
+    if 16 <= p.resources {
         return Verdict::TooManyRows(n);
     }
     Verdict::Accepted
 }
 
-// 27: task k declared the resource and belongs to another subsystem than owner.
-fn apart_at<'a>(owners: &'a [u8], lengths: &'a [u16], k: u8, resource: u32, owner: u8) -> bool
-    ensures { result ≡ apart_at owners.now lengths.now resource owner k }
-{
-    if word_at(lengths, (k as usize) * 16 + (resource as usize)) == 65535 {
-        return false;
-    }
-    byte_at(owners, k as usize) != owner
-}
-
-// 27: some task did.
-fn apart<'a>(owners: &'a [u8], lengths: &'a [u16], tasks: u8, resource: u32, owner: u8) -> bool
-    ensures { result ≡ any tasks (apart_at owners.now lengths.now resource owner) }
-{
-    let mut k: u8 = 0;
-    while k < tasks {
-        if apart_at(owners, lengths, k, resource, owner) {
-            return true;
-        }
-        k += 1;
-    }
-    false
-}
-
 // 25: the length of a global resource is 1 to 10000, of a local one 0.
-fn out_of_range(kinds: &[u8], resource: u32, length: u32) -> bool
-    ensures { (t : ℕ) → result ≡ out_of_range (lent 0 0 0 [] [] [] kinds.now []) (Line.Uses t resource length) }
+fn out_of_range(p: &Plan, r: u8, length: u32) -> bool
+    ensures { (t : ℕ) → result ≡ out_of_range p.now (Line.Uses t r length) }
 {
-    if byte_at(kinds, resource as usize) != 1 {
-        return length != 0;
+    if p.is_global(r) {
+        length < 1 || 10000 < length
+    } else {
+        length != 0
     }
-    if length < 1 {
-        return true;
-    }
-    if 10000 < length {
-        return true;
-    }
-    false
 }
 
-// 26
-fn declared(lengths: &[u16], task: u32, resource: u32) -> bool
-    ensures { result ≡ declares (lent 0 0 0 [] [] [] [] lengths.now) task resource }
+// 27: a local resource that a task of another subsystem declared before.
+fn two_subsystems(p: &Plan, t: u8, r: u8) -> bool
+    ensures { (l : ℕ) → result ≡ two_subsystems p.now (Line.Uses t r l) }
 {
-    word_at(lengths, (task as usize) * 16 + (resource as usize)) != 65535
+    let owner = p.owner(t);
+    !p.is_global(r) && (0..p.tasks).any(|k| p.declares(k, r) && p.owner(k) != owner)
 }
 
-// 27
-fn two_subsystems<'a>(
-    owners: &'a [u8],
-    kinds: &'a [u8],
-    lengths: &'a [u16],
-    tasks: u8,
-    task: u32,
-    resource: u32,
-) -> bool
-    ensures { (l : ℕ) → result ≡ two_subsystems (lent 0 tasks 0 [] [] owners.now kinds.now lengths.now) (Line.Uses task resource l) }
+// 28: longer than the budget of the task's subsystem.
+fn above_budget(p: &Plan, t: u8, length: u32) -> bool
+    ensures { (r : ℕ) → result ≡ above_budget p.now (Line.Uses t r length) }
 {
-    if byte_at(kinds, resource as usize) == 1 {
-        return false;
-    }
-    let owner = byte_at(owners, task as usize);
-    apart(owners, lengths, tasks, resource, owner)
-}
-
-// 28
-fn above_budget<'a>(budgets: &'a [u16], owners: &'a [u8], task: u32, length: u32) -> bool
-    ensures { (s : ℕ) → result ≡ above_budget (lent 0 0 0 [] budgets.now owners.now [] []) (Line.Uses task s length) }
-{
-    let owner = byte_at(owners, task as usize);
-    (word_at(budgets, owner as usize) as u32) < length
+    (p.budget(p.owner(t)) as u32) < length
 }
 
 // U
-fn judge_use<'a>(
-    tasks: u8,
-    resources: u8,
-    budgets: &'a [u16],
-    owners: &'a [u8],
-    kinds: &'a [u8],
-    lengths: &'a [u16],
-    n: u32,
-    task: u32,
-    resource: u32,
-    length: u32,
-) -> Verdict
-    ensures { result ≡ judged_rows (lent 0 tasks resources [] budgets.now owners.now kinds.now lengths.now) n (Line.Uses task resource length) }
+fn judge_use(p: &Plan, n: u32, task: u32, resource: u32, length: u32) -> Verdict
+    ensures { result ≡ judged_rows p.now n (Line.Uses task resource length) }
 {
-    if (tasks as u32) <= task {
+    if (p.tasks as u32) <= task || (p.resources as u32) <= resource {
         return Verdict::NoSuchRow(n);
     }
-    if (resources as u32) <= resource {
-        return Verdict::NoSuchRow(n);
-    }
-    if out_of_range(kinds, resource, length) {
+    let t = task as u8;
+    let r = resource as u8;
+    if out_of_range(p, r, length) {
         return Verdict::OutOfRange(n);
     }
-    if declared(lengths, task, resource) {
+    if p.declares(t, r) {
         return Verdict::Twice(n);
     }
-    if two_subsystems(owners, kinds, lengths, tasks, task, resource) {
+    if two_subsystems(p, t, r) {
         return Verdict::TwoSubsystems(n);
     }
-    if above_budget(budgets, owners, task, length) {
+    if above_budget(p, t, length) {
         return Verdict::AboveBudget(n);
     }
     Verdict::Accepted
 }
 
 // 23 to 28, by the kind of the line.
-fn judge_rows(t: Tables, lengths: &[u16], n: u32, l: Line) -> Verdict
-    ensures { result ≡ judged_rows (plan_of t lengths.now) n l }
+fn judge_rows(p: &Plan, n: u32, l: Line) -> Verdict
+    ensures { result ≡ judged_rows p.now n l }
 {
     match l {
-        Line::Subsystem { period, budget } => judge_subsystem(t.subsystems, n, period, budget),
-        Line::Task { subsystem } => judge_task(t.subsystems, t.tasks, n, subsystem),
-        Line::Resource { kind } => judge_resource(t.resources, n, kind),
+        Line::Subsystem { period, budget } => judge_subsystem(p, n, period, budget),
+        Line::Task { subsystem } => judge_task(p, n, subsystem),
+        Line::Resource { kind } => judge_resource(p, n, kind),
         Line::Uses {
             task,
             resource,
             length,
-        } => judge_use(
-            t.tasks,
-            t.resources,
-            &t.budgets,
-            &t.owners,
-            &t.kinds,
-            lengths,
-            n,
-            task,
-            resource,
-            length,
-        ),
+        } => judge_use(p, n, task, resource, length),
         Line::Malformed => Verdict::Accepted,
     }
 }
 
-// 21, then 22, then the others, over the plan of these rows and lengths. last is the kind of the line before, n the number of this one.
-pub fn judge(t: Tables, lengths: &[u16], last: u8, n: u32, l: Line) -> Verdict
-    ensures { result ≡ judged (plan_of t lengths.now) last n l }
+// 21, then 22, then the others, over the plan read so far. last is the kind of the line before, n the number of this one.
+pub fn judge(p: &Plan, last: u8, n: u32, l: Line) -> Verdict
+    ensures { result ≡ judged p.now last n l }
 {
     let kind = kind_of(l);
     if kind == 4 {
@@ -207,5 +127,5 @@ pub fn judge(t: Tables, lengths: &[u16], last: u8, n: u32, l: Line) -> Verdict
     if kind < last {
         return Verdict::KindOrder(n);
     }
-    judge_rows(t, lengths, n, l)
+    judge_rows(p, n, l)
 }

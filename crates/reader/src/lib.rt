@@ -68,23 +68,19 @@ pub enum Asked {
 }
 
 // 29: no S line. Then 30: a margin is negative, and the first such row.
-fn judge_whole(p: Plan) -> Reading
-    ensures { result ≡ judged_whole p }
+fn judge_whole(p: &Plan) -> Reading
+    ensures { result ≡ judged_whole p.now }
 {
     if p.subsystems == 0 {
         return refuse(Verdict::NoSubsystem);
     }
-    let row = plan::first_negative(p);
-    if row < p.subsystems {
-        return Reading {
-            verdict: Verdict::NegativeMargin(row as u32),
-            plan: p,
-        };
-    }
-    Reading {
-        verdict: Verdict::Accepted,
-        plan: p,
-    }
+    let row = p.first_negative();
+    let verdict = if row < p.subsystems {
+        Verdict::NegativeMargin(row as u32)
+    } else {
+        Verdict::Accepted
+    };
+    Reading { verdict, plan: *p }
 }
 
 // "Admission": 20 is judged first, then the first bad line, then 29, then 30.
@@ -95,12 +91,10 @@ pub fn read(text: &[u8]) -> Reading
         return refuse(Verdict::TooLong);
     }
     let r = read_lines(text);
-    let v = r.verdict;
-    if is_accepted(v) {
-        let p = r.plan;
-        return judge_whole(p);
+    if !is_accepted(r.verdict) {
+        return r;
     }
-    r
+    judge_whole(&r.plan)
 }
 
 // "Admission": the margin of a row of a plan that meets no refusal but 30. A row the plan lacks gives 24 and 0, any other plan its refusal.
@@ -108,13 +102,11 @@ pub fn ask(text: &[u8], row: u32) -> Asked
     ensures { result ≡ asked text.now row }
 {
     let r = read(text);
-    let v = r.verdict;
-    if !has_margins(v) {
-        return Asked::Refused(v);
+    if !has_margins(r.verdict) {
+        return Asked::Refused(r.verdict);
     }
-    let p = r.plan;
-    if row < (p.subsystems as u32) {
-        return Asked::Margin(plan::margin(p, row as u8));
+    if row < (r.plan.subsystems as u32) {
+        return Asked::Margin(r.plan.margin(row as u8));
     }
     Asked::NoRow
 }

@@ -27,21 +27,20 @@ pub fn beside(v: Verdict) -> u32
     ensures { result ≡ beside v }
 {
     match v {
-        Verdict::Accepted => 0,
-        Verdict::TooLong => 0,
-        Verdict::NotGrammar(line) => line,
-        Verdict::KindOrder(line) => line,
-        Verdict::TooManyRows(line) => line,
-        Verdict::NoSuchRow(line) => line,
-        Verdict::OutOfRange(line) => line,
-        Verdict::Twice(line) => line,
-        Verdict::TwoSubsystems(line) => line,
-        Verdict::AboveBudget(line) => line,
-        Verdict::NoSubsystem => 0,
+        Verdict::Accepted | Verdict::TooLong | Verdict::NoSubsystem => 0,
+        Verdict::NotGrammar(line)
+        | Verdict::KindOrder(line)
+        | Verdict::TooManyRows(line)
+        | Verdict::NoSuchRow(line)
+        | Verdict::OutOfRange(line)
+        | Verdict::Twice(line)
+        | Verdict::TwoSubsystems(line)
+        | Verdict::AboveBudget(line) => line,
         Verdict::NegativeMargin(row) => row,
     }
 }
 
+#[tactic(auto, unfolding(crate::specs::Numbers::is_accepted))]
 pub fn is_accepted(v: Verdict) -> bool
     ensures { result ≡ is_accepted v }
 {
@@ -53,10 +52,7 @@ pub fn has_margins(v: Verdict) -> bool
     ensures { result ≡ (eqb (number v) 0 || eqb (number v) 30) }
 {
     let n = number(v);
-    if n == 0 {
-        return true;
-    }
-    n == 30
+    n == 0 || n == 30
 }
 
 // What a host is told of a margin: 0, 24 for a row the plan lacks, or the plan's refusal.

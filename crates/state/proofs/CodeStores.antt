@@ -3,7 +3,7 @@ use mathlib.Core.Path.{◌≡◌, sym, ◌∙◌}
 use mathlib.Core.List.{List, map}
 use Prim.Native.Nat.{ℕ, ◌+◌, ◌*◌, ◌≤◌}
 use native.Mathlib.Omega.{arith}
-use lib.ListN.{length, length-map}
+use lib.ListN.{length, length-map, set}
 use lib.Seq.{set_out}
 use Rattle.state.specs.declared.BudgetLeft.{BudgetLeft}
 use Rattle.state.specs.declared.Task.{Task}
@@ -14,6 +14,10 @@ use Rattle.state.specs.Update.{with_held, with_task, with_left, with_used}
 -- what owning an array of structs tells of its list
 pub unmapped : (X Y : Type 0) (f : X → Y) (l : List X) (n : ℕ) → length (map f l) ≡ n → length l ≡ n
 unmapped X Y f l n e = sym (length-map l f) ∙ e
+
+-- in any list
+pub past : {X : Type 0} (l : List X) (i : ℕ) (v : X) → length l ≤ i → set l i v ≡ l
+past l i v h = set_out l i v h
 
 module _ (s : State) where
   pub with_left_past : (c : ℕ) (q : BudgetLeft) → length s.left ≡ 8 → 8 ≤ c → s ≡ with_left s c q

@@ -4,9 +4,9 @@
 mod altered;
 pub mod beginning;
 mod columns;
+mod one_task;
 mod rows;
 mod section;
-mod one_task;
 
 pub use altered::{
     giving_back, idle_task, put_task, readied, started, taking, waiting_for, with_left, with_used,

@@ -8,6 +8,7 @@ use plan::Plan;
 
 impl Task {
     // How an idle and an absent task look.
+    #[tactic(auto, unfolding(crate::specs::State::idle_task))]
     pub fn idle() -> Task
         ensures { result ≡ idle_task }
     {
@@ -20,6 +21,7 @@ impl Task {
     }
 
     // The i-th resource that it took.
+    #[tactic(auto, unfolding(crate::specs::State::held_at))]
     pub fn held_at(&self, i: u8) -> u8
         ensures { result ≡ held_at self.now i }
     {
@@ -27,6 +29,7 @@ impl Task {
     }
 
     // The resource that it took last.
+    #[tactic(auto, unfolding(crate::specs::State::last_held))]
     pub fn last_held(&self) -> u8
         ensures { result ≡ last_held self.now }
     {
@@ -34,6 +37,7 @@ impl Task {
     }
 
     // Whether a resource is among those that it holds.
+    #[tactic(auto, unfolding(crate::specs::State::holds))]
     pub fn holds(&self, r: u8) -> bool
         ensures { result ≡ holds self.now r }
     {
@@ -41,12 +45,14 @@ impl Task {
     }
 
     // It holds a global resource, which is the last it took.
+    #[tactic(auto, unfolding(crate::specs::State::in_section))]
     pub fn in_section(&self, p: &Plan) -> bool
         ensures { result ≡ in_section p.now self.now }
     {
         1 <= self.count && p.is_global(self.last_held())
     }
 
+    #[tactic(auto, unfolding(crate::specs::Update::readied))]
     pub fn readied(self) -> Task
         ensures { result ≡ readied self }
     {
@@ -57,6 +63,7 @@ impl Task {
         }
     }
 
+    #[tactic(auto, unfolding(crate::specs::Update::started))]
     pub fn started(self) -> Task
         ensures { result ≡ started self }
     {
@@ -67,6 +74,7 @@ impl Task {
         }
     }
 
+    #[tactic(auto, unfolding(crate::specs::Update::waiting_for))]
     pub fn waiting_for(self, r: u8) -> Task
         ensures { result ≡ waiting_for self r }
     {
@@ -78,12 +86,13 @@ impl Task {
     }
 
     // It takes a resource, and so is started. A fifth has no place. A count of 255 stays, for one more does not fit its byte.
+    #[tactic(auto, unfolding(crate::specs::Update::taking), using(crate::proofs::CodeStores::past))]
     pub fn taking(self, r: u8) -> Task
         ensures { self.count < 255 → result ≡ taking self r }
     {
         let mut next = self;
-        if let Some(place) = next.held.get_mut(self.count as usize) {
-            *place = r;
+        if self.count < 4 {
+            next.held[self.count as usize] = r;
         }
         Task {
             condition: 2,
@@ -94,13 +103,14 @@ impl Task {
     }
 
     // It gives back the resource that it took last.
+    #[tactic(auto, unfolding(crate::specs::Update::giving_back), using(crate::proofs::CodeStores::past))]
     pub fn giving_back(self) -> Task
         ensures { result ≡ giving_back self }
     {
         let mut next = self;
         let count = self.count.saturating_sub(1);
-        if let Some(place) = next.held.get_mut(count as usize) {
-            *place = 255;
+        if count < 4 {
+            next.held[count as usize] = 255;
         }
         Task { count, ..next }
     }

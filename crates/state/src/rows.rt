@@ -1,7 +1,8 @@
 // A state by its rows: what it says of a subsystem and of a task, and the state with one of these changed. All that the events alter goes through these.
 // A row past the end reads as the definitions read it, and changes nothing.
-ghost use Rattle.std.specs.Prelude.{◌≡◌};
-ghost use Rattle.state.specs.State.{task_at, left_of, refill_of, used_of, section_left};
+ghost use Rattle.std.specs.Prelude.{◌≡◌, get_or};
+ghost use Rattle.plan.specs.Limits.{no_row};
+ghost use Rattle.state.specs.State.{held_place, task_at, left_of, refill_of, used_of, section_left};
 ghost use Rattle.state.specs.Update.{with_task, with_left, with_used};
 ghost use Rattle.state.specs.Fresh.{fresh};
 
@@ -13,14 +14,10 @@ impl State {
     pub fn fresh(p: &Plan) -> State
         ensures { result ≡ fresh p.now }
     {
-        let mut left = [BudgetLeft(0); 8];
-        for c in 0..8u8 {
-            left[c as usize] = BudgetLeft(p.budget(c));
-        }
-        let refill = p.periods;
+        let left = p.budgets.map(BudgetLeft);
         State {
             left,
-            refill,
+            refill: p.periods,
             used: [0; 8],
             conditions: [0; 32],
             waits: [255; 32],
@@ -29,37 +26,49 @@ impl State {
         }
     }
 
+    // The i-th resource that task k took.
+    #[tactic(auto, unfolding(crate::specs::State::held_place))]
+    fn held_of(&self, k: u8, i: u8) -> u8
+        ensures { result ≡ get_or self.now.held (held_place k i) no_row }
+    {
+        let at = (k as usize) * 4 + (i as usize);
+        self.held.get(at).copied().unwrap_or(255)
+    }
+
+    // Task row k; an absent row reads as the idle task.
     pub fn task(&self, k: u8) -> Task
         ensures { result ≡ task_at self.now k }
     {
         let i = k as usize;
-        let at = 4 * i;
         Task {
             condition: self.conditions.get(i).copied().unwrap_or(0),
             waits: self.waits.get(i).copied().unwrap_or(255),
             count: self.counts.get(i).copied().unwrap_or(0),
             held: [
-                self.held.get(at).copied().unwrap_or(255),
-                self.held.get(at + 1).copied().unwrap_or(255),
-                self.held.get(at + 2).copied().unwrap_or(255),
-                self.held.get(at + 3).copied().unwrap_or(255),
+                self.held_of(k, 0),
+                self.held_of(k, 1),
+                self.held_of(k, 2),
+                self.held_of(k, 3),
             ],
         }
     }
 
     // Budget left of a subsystem; an absent one has none.
+    #[tactic(auto, unfolding(crate::specs::State::left_of))]
     pub fn left_of(&self, c: u8) -> BudgetLeft
         ensures { result ≡ left_of self.now c }
     {
         self.left.get(c as usize).copied().unwrap_or(BudgetLeft(0))
     }
 
+    #[tactic(auto, unfolding(crate::specs::State::refill_of))]
     pub fn refill_of(&self, c: u8) -> u16
         ensures { result ≡ refill_of self.now c }
     {
         self.refill.get(c as usize).copied().unwrap_or(0)
     }
 
+    #[tactic(auto, unfolding(crate::specs::State::used_of))]
     pub fn used_of(&self, c: u8) -> u16
         ensures { result ≡ used_of self.now c }
     {
@@ -67,6 +76,7 @@ impl State {
     }
 
     // Section length left of task k: q, a count of its own type.
+    #[tactic(auto, unfolding(crate::specs::State::section_left))]
     pub fn section_left(&self, p: &Plan, k: u8) -> SectionLeft
         ensures { result ≡ section_left p.now self.now k }
     {
@@ -75,6 +85,7 @@ impl State {
     }
 
     // Another task at row k.
+    #[tactic(auto, unfolding(crate::specs::Update::with_task, crate::specs::Update::with_held, crate::specs::State::held_place, crate::specs::State::held_at), using(crate::proofs::CodeStores::with_task_past))]
     pub fn put_task(&mut self, k: u8, t: Task)
         ensures { self.new ≡ with_task self.old k t }
     {
@@ -92,20 +103,22 @@ impl State {
     }
 
     // Another budget left for subsystem c.
+    #[tactic(auto, unfolding(crate::specs::Update::with_left), using(crate::proofs::CodeStores::with_left_past))]
     pub fn set_left(&mut self, c: u8, q: BudgetLeft)
         ensures { self.new ≡ with_left self.old c q }
     {
-        if let Some(left) = self.left.get_mut(c as usize) {
-            *left = q;
+        if c < 8 {
+            self.left[c as usize] = q;
         }
     }
 
     // Another used count for subsystem c.
+    #[tactic(auto, unfolding(crate::specs::Update::with_used), using(crate::proofs::CodeStores::with_used_past))]
     pub fn set_used(&mut self, c: u8, n: u16)
         ensures { self.new ≡ with_used self.old c n }
     {
-        if let Some(used) = self.used.get_mut(c as usize) {
-            *used = n;
+        if c < 8 {
+            self.used[c as usize] = n;
         }
     }
 }

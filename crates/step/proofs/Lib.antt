@@ -20,13 +20,11 @@ pub mod Spends
 pub mod Lowers
 pub mod HeldBack
 pub mod TickHeldBack
-pub mod Lending
 pub mod Parts
-pub mod Refills
+pub mod Made
 pub mod Settling
 pub mod WholeTick
 pub mod Asking
-pub mod Rest
 pub mod Answering
 pub mod Narrowing
 pub mod Stepping

@@ -16,11 +16,19 @@ use Rattle.step.specs.Refusals.{release, lock, unlock, end, tick, order_table, u
 use Rattle.step.specs.Events.{answered}
 use Rattle.step.specs.Tick.{ticked}
 use Rattle.step.specs.Step.{done, stepped}
-use Rattle.step.specs.Lent.{narrow}
+use Rattle.step.specs.declared.order.Kind.{Kind}
+use Rattle.step.specs.declared.order.Kind.TheVariants.{Release, Lock, Unlock, End}
+use Rattle.step.specs.Lent.{kind_number, narrow}
 use Rattle.step.proofs.Cases.{stepped_tick}
 use Rattle.step.proofs.Answering.{stepped_refused}
 
--- one of four kinds
+-- a kind at rows is one of four
+pub kind_most : (kind : Kind) → kind_number kind ≤ 3
+kind_most Release = omega arith
+kind_most Lock = omega arith
+kind_most Unlock = omega arith
+kind_most End = omega arith
+
 of_four : (C : ℕ → Type 0) → C release → C lock → C unlock → C end → (n : ℕ) → n ≤ 3 → C n
 of_four C a b c d zero h = a
 of_four C a b c d (suc zero) h = b

@@ -3,7 +3,6 @@
 use mathlib.Core.Path.{◌≡◌, refl, sym, ap, ◌∙◌}
 use mathlib.Core.Logic.{◌≢◌}
 use mathlib.Core.Bool.{Bool, true, false, cond}
-use mathlib.Core.List.{List}
 use Prim.Native.Nat.{ℕ, zero, suc, ◌+◌, ◌-◌, ◌^◌, ◌≤◌, ◌<◌}
 use native.Mathlib.Omega.{arith}
 use lib.Dec.{eqb}
@@ -12,10 +11,10 @@ use Rattle.below.specs.Below.{sum}
 use Rattle.below.proofs.Amounts.{sum_rises, sum_falls}
 use Rattle.below.proofs.Tests.{fails, conjuncts, or_left}
 use Rattle.plan.specs.declared.Plan.{Plan}
+use Rattle.plan.specs.declared.CeiledPlan.{CeiledPlan}
 use Rattle.plan.specs.Limits.{most_tasks}
 use Rattle.plan.specs.Plan.{owner}
 use Rattle.plan.specs.Facts.{Accepted}
-use Rattle.state.specs.declared.Clocks.{Clocks}
 use Rattle.state.specs.declared.State.{State}
 use Rattle.state.specs.State.{idle_task, task_at, is_idle, in_section}
 use Rattle.state.specs.Sized.{Sized}
@@ -24,9 +23,9 @@ use Rattle.state.proofs.Update.{task_at_with_task, task_at_with_task_other, task
 use Rattle.state.proofs.TaskUpdate.{idle_sized}
 use Rattle.legal.proofs.Tasks.{section_count}
 use Rattle.choice.specs.declared.Choice.{Choice}
-use Rattle.choice.specs.Choice.{chosen_task}
-use Rattle.step.specs.declared.Rows.{Rows}
-use Rattle.step.specs.Lent.{Lent, Chooses, Settles, spent_at}
+use Rattle.choice.specs.Choice.{chosen, chosen_task}
+use Rattle.choice.specs.Lent.{Lent}
+use Rattle.step.specs.Lent.{Settles, spent_at}
 use Rattle.step.specs.Events.{ended_task}
 use Rattle.step.specs.Tick.{Shut, is_spent, shut_one, shut_turns, shut_spent}
 use Rattle.step.proofs.Kept.{Kept}
@@ -100,6 +99,10 @@ module _ (p : Plan) (x : Shut) where
   turns_unspent zero e = refl
   turns_unspent (suc n) e = rw (e, shut_turns)
 
+-- a choice is that of a state
+abbrev pub Chooses : Plan → State → Choice → Type 0
+Chooses p s d = (d.subsystem ≡ chosen p s) × (d.task ≡ chosen_task p s)
+
 -- what holds after some turns: c is the choice, and so many turns are left
 pub record Settling (p : Plan) (start x : Shut) (c : Choice) (turn : ℕ) : Type 0 where
   pub kept : Kept p x.state
@@ -116,7 +119,7 @@ module _ (p : Plan) (A : Accepted p) (start x : Shut) (c : Choice) (turn : ℕ) 
   -- the code's test is that of the definition
   test_is : spent_at p x.state c.task ≡ is_spent p x.state
   unfolding spent_at is_spent
-  test_is = rw S.chooses.task
+  test_is = rw S.chooses.1
 
   -- one more turn
   module _ (e : spent_at p x.state c.task ≡ true) where
@@ -127,7 +130,7 @@ module _ (p : Plan) (A : Accepted p) (start x : Shut) (c : Choice) (turn : ℕ) 
 
     -- and is there
     there : c.task < p.tasks
-    there = rw S.chooses.task (section_takes p x.state S.kept.sized (rw S.chooses.task at inside)).there
+    there = rw S.chooses.1 (section_takes p x.state S.kept.sized (rw S.chooses.1 at inside)).there
 
     pub task_most : c.task < 32
     task_most = omega (arith, there, A.tasks_most)
@@ -148,7 +151,7 @@ module _ (p : Plan) (A : Accepted p) (start x : Shut) (c : Choice) (turn : ℕ) 
     one_fewer l =
         ap (λ (n : ℕ). shut_turns n p x) (omega arith)
         ∙ turns_spent p x (p.subsystems - (turn + 1)) (sym test_is ∙ e)
-        ∙ ap (λ (k : ℕ). shut_turns (p.subsystems - (turn + 1)) p (shut_one p x k)) (sym S.chooses.task)
+        ∙ ap (λ (k : ℕ). shut_turns (p.subsystems - (turn + 1)) p (shut_one p x k)) (sym S.chooses.1)
 
     pub turned : (y : Shut) (d : Choice) → turn < p.subsystems → y ≡ shut_one p x c.task → Chooses p y.state d → Settling p start y d (turn + 1)
     unfolding shut_one
@@ -172,34 +175,31 @@ module _ (p : Plan) (A : Accepted p) (start x : Shut) (c : Choice) (turn : ℕ) 
   none_spent e = sym (S.turns ∙ turns_unspent p x (p.subsystems - turn) (sym test_is ∙ e))
 
 -- the choice is that of the state after (a)
-pub settled : (p : Plan) (s : State) (x : Shut) (q : Clocks) (c : Choice) → x ≡ shut_turns p.subsystems p (record { state = s; ended = 0 }) → Chooses p x.state c
-    → Settles p s x.state (record { clocks = q; ended = x.ended; subsystem = c.subsystem; task = c.task })
+pub settled : (p : Plan) (s : State) (x : Shut) (d : Choice) → x ≡ shut_turns p.subsystems p (record { state = s; ended = 0 }) → Chooses p x.state d
+    → Settles p s x.state (record { ended = x.ended; subsystem = d.subsystem; task = d.task })
 unfolding shut_spent
-settled p s x q c e C =
-    record { state = ap (λ (y : Shut). y.state) e; ended = ap (λ (y : Shut). y.ended) e; subsystem = C.subsystem; task = C.task }
+settled p s x d e C = record { state = ap (λ (y : Shut). y.state) e; ended = ap (λ (y : Shut). y.ended) e; subsystem = C.0; task = C.1 }
 
--- what is lent is legal
-pub lent_kept : (p : Plan) (s : State) (rows : Rows) (lengths : List ℕ) → Lent p s rows lengths → Kept p s
-lent_kept p s rows lengths L = record { sized = L.sized; legal = L.legal }
+-- one turn
+shut_is : (p : Plan) (x : Shut) (k : ℕ) (u : State) (n : ℕ) → u ≡ with_used (ended_task x.state k) (owner p k) 0 → n ≡ x.ended + 2 ^ k
+    → record { state = u; ended = n } ≡ shut_one p x k
+unfolding shut_one
+shut_is p x k u n f g = rw (f, g)
 
--- what is lent after a turn; the lengths are the plan's own
-pub lent_after : (p : Plan) (s u : State) (rows : Rows) (lengths : List ℕ) → Lent p s rows lengths → Kept p u → Lent p u rows p.lengths
-lent_after p s u rows lengths L S =
-    record {
-      accepted = L.accepted;
-      rows_of_plan = record { of_rows = L.rows_of_plan.of_rows; of_lengths = refl };
-      sized = S.sized;
-      legal = S.legal;
-    }
+-- what is lent stays lent
+pub lent_after : (c : CeiledPlan) (s u : State) → Lent c s → Kept c.plan u → Lent c u
+lent_after c s u L S = record { accepted = L.accepted; ceilings = L.ceilings; legal = S.legal }
 
--- a turn of the code: what its two calls ask is there
-pub again : (p : Plan) (s : State) (rows : Rows) (lengths : List ℕ) (L : Lent p s rows lengths) (start x : Shut) (c : Choice) (turn : ℕ) → Settling p start x c turn
-    → turn < p.subsystems → spent_at p x.state c.task ≡ true
-    → (y : Shut) (d : Choice)
-    → (Sized x.state → c.task < 32 → x.ended + 2 ^ c.task < 4294967296 → y ≡ shut_one p x c.task)
-    → (Lent p y.state rows p.lengths → Chooses p y.state d)
-    → Settling p start y d (turn + 1)
-again p s rows lengths L start x c turn S l e y d shut choose =
+-- a turn of the code: what its calls ask is there
+pub again : (c : CeiledPlan) (s : State) (L : Lent c s) (start x : Shut) (d : Choice) (turn : ℕ) → Settling c.plan start x d turn
+    → turn < c.plan.subsystems → spent_at c.plan x.state d.task ≡ true
+    → (u : State) (n : ℕ) (e : Choice)
+    → u ≡ with_used (ended_task x.state d.task) (owner c.plan d.task) 0
+    → (d.task < 32 → x.ended + 2 ^ d.task < 4294967296 → n ≡ x.ended + 2 ^ d.task)
+    → (Lent c u → Chooses c.plan u e)
+    → Settling c.plan start (record { state = u; ended = n }) e (turn + 1)
+again c s L start x d turn S l t u n e shut more choose =
     let A = L.accepted in
-    let q = shut S.kept.sized (task_most p A start x c turn S e) (ended_fits p A start x c turn S e) in
-    turned p A start x c turn S e y d l q (choose (lent_after p s y.state rows lengths L (turned_kept p A start x c turn S e y q)))
+    let y : Shut = record { state = u; ended = n } in
+    let q = shut_is c.plan x d.task u n shut (more (task_most c.plan A start x d turn S t) (ended_fits c.plan A start x d turn S t)) in
+    turned c.plan A start x d turn S t y e l q (choose (lent_after c s u L (turned_kept c.plan A start x d turn S t y q)))

@@ -31,7 +31,7 @@ use Rattle.step.proofs.Ticked.{given_kept}
 
 module _ (p : Plan) (s : State) (A : Accepted p) (S : Kept p s) where
   -- a row holds at most 4 resources, there or not
-  count_most : (k : ℕ) → (task_at s k).count ≤ most_held
+  pub count_most : (k : ℕ) → (task_at s k).count ≤ most_held
   count_most k = go (row_there k p.tasks) (row_there k most_tasks)
     where
       go : (k < p.tasks) ⊎ (p.tasks ≤ k) → (k < most_tasks) ⊎ (most_tasks ≤ k) → (task_at s k).count ≤ most_held
@@ -113,12 +113,8 @@ module _ (p : Plan) (s : State) (A : Accepted p) (S : Kept p s) (v : State) (x :
 
   -- with no subsystem chosen
   pub ticked_idle : x.subsystem ≡ no_row → (a : ℕ) (u : State) → a ≡ tick_answer x.ended → u ≡ refilled p v
-      → record { answer = a; subsystem = 255; task = 255; ended = x.ended; state = u } ≡ ticked p s
-  ticked_idle n a u e f = tick_idle_is p shut a u e f ∙ sym (after_none p shut (sym T.subsystem ∙ n)) ∙ sym ticked_after
-
-  -- (a) leaves lists of their lengths
-  pub shut_sized : Sized v
-  shut_sized = unspent.kept.sized
+      → record { answer = a; subsystem = x.subsystem; task = 255; ended = x.ended; state = u } ≡ ticked p s
+  ticked_idle n a u e f = rw n (tick_idle_is p shut a u e f) ∙ sym (after_none p shut (sym T.subsystem ∙ n)) ∙ sym ticked_after
 
   -- (b) has room for what it takes
   pub waited_room : (task_at v x.task).count < 255
@@ -128,11 +124,6 @@ module _ (p : Plan) (s : State) (A : Accepted p) (S : Kept p s) (v : State) (x :
   given_legal : Kept p (given_waited p v x.task)
   unfolding chosen_task
   given_legal = rw T.task (given_kept p v A unspent)
-
-  -- and so does (c) once it has charged
-  pub paid_sized : (given : State) → given ≡ given_waited p v x.task → (paid : State) → paid ≡ charged given x.subsystem → Sized paid
-  unfolding charged
-  paid_sized given eg paid ep = rw ep (sized_with_left given x.subsystem _ (rw eg given_legal.sized))
 
   -- (c) has room for one tick more
   pub used_room : (given : State) → given ≡ given_waited p v x.task → (paid : State) → paid ≡ charged given x.subsystem → (c : ℕ) → used_of paid c < 65535

@@ -1,65 +1,37 @@
--- What the functions of a step are lent: the rows of a plan with its ceilings, the lengths, and a state. Each contract speaks of every plan that has these
--- rows, so that it cites the definition that it meets.
-use Rattle.std.specs.Prelude.{◌≡◌, Bool, true, false, ◌&&◌, List, ℕ, ◌-◌, leb, ltb, eqb, get_or}
-use Rattle.below.specs.Listed.{listed}
+-- What the functions of a step say of their parts: the kinds of events and what is asked of one, and a tick's parts.
+use Rattle.std.specs.Prelude.{◌≡◌, Bool, true, false, ◌&&◌, ℕ, ◌-◌, leb, ltb, eqb}
 use Rattle.plan.specs.declared.Plan.{Plan}
-use Rattle.plan.specs.Limits.{most_subsystems, most_resources, no_row}
-use Rattle.plan.specs.Ceiling.{ceiling}
-use Rattle.plan.specs.Facts.{Accepted}
+use Rattle.plan.specs.Limits.{no_row}
+use Rattle.plan.specs.Plan.{period, budget}
 use Rattle.state.specs.declared.BudgetLeft.{BudgetLeft}
-use Rattle.state.specs.declared.Task.{Task}
 use Rattle.state.specs.declared.State.{State}
-use Rattle.state.specs.State.{task_at, in_section, section_left}
-use Rattle.state.specs.Lent.{state_with}
-use Rattle.state.specs.Sized.{Sized}
-use Rattle.legal.specs.Facts.{Legal}
-use Rattle.choice.specs.declared.Choice.{Choice}
+use Rattle.state.specs.State.{task_at, left_of, refill_of, in_section, section_left}
 use Rattle.choice.specs.Choice.{chosen, chosen_task, running}
-use Rattle.step.specs.declared.Rows.{Rows}
-use Rattle.step.specs.declared.Reply.{Reply}
 use Rattle.step.specs.declared.Outcome.{Outcome}
+use Rattle.step.specs.declared.Answer.{Answer}
+use Rattle.step.specs.declared.order.Asked.{Asked}
+use Rattle.step.specs.declared.order.Kind.{Kind}
+use Rattle.step.specs.declared.order.Kind.TheVariants.{Release, Lock, Unlock, End}
 use Rattle.step.specs.declared.tick.Settled.{Settled}
+use Rattle.step.specs.Refusals.{release, lock, unlock, end}
+use Rattle.step.specs.Step.{answer_of}
 use Rattle.step.specs.Tick.{shut_spent}
 
--- the rows of a plan, with the ceilings of its resources
-unfoldable pub rows_of : Plan → Rows
-rows_of p =
-    record {
-      subsystems = p.subsystems;
-      tasks = p.tasks;
-      resources = p.resources;
-      periods = p.periods;
-      budgets = p.budgets;
-      owners = p.owners;
-      kinds = p.kinds;
-      ceilings = listed most_resources (ceiling p);
-    }
+-- the number of a kind of events at rows
+abbrev pub kind_number : Kind → ℕ
+kind_number Release = release
+kind_number Lock = lock
+kind_number Unlock = unlock
+kind_number End = end
 
--- rows and lengths are those of a plan
-pub record RowsOf (p : Plan) (rows : Rows) (lengths : List ℕ) : Type 0 where
-  pub of_rows : rows ≡ rows_of p
-  pub of_lengths : lengths ≡ p.lengths
+-- what a refusal is asked of stands so in a state: its task, and the row that runs
+pub record AskedOf (p : Plan) (s : State) (a : Asked) : Type 0 where
+  pub of_task : a.task ≡ task_at s a.row
+  pub of_running : a.running ≡ running p s
 
--- the plan is accepted, and the state is legal for it
-pub record Lent (p : Plan) (s : State) (rows : Rows) (lengths : List ℕ) : Type 0 where
-  pub accepted : Accepted p
-  pub rows_of_plan : RowsOf p rows lengths
-  pub sized : Sized s
-  pub legal : Legal p s
-
--- the outcome of a reply, with the columns of tasks that it leaves
-abbrev pub outcome_with : Reply → List ℕ → List ℕ → List ℕ → List ℕ → Outcome
-outcome_with r conditions waits counts held =
-    record { answer = r.answer; subsystem = r.subsystem; task = r.task; ended = r.ended; state = state_with r.clocks conditions waits counts held }
-
--- what a refusal is asked of: t is task k, and the row that runs is known
-pub record Asked (p : Plan) (s : State) (tasks resources : ℕ) (kinds lengths : List ℕ) (row : ℕ) (t : Task) (k : ℕ) : Type 0 where
-  pub of_tasks : tasks ≡ p.tasks
-  pub of_resources : resources ≡ p.resources
-  pub of_kinds : kinds ≡ p.kinds
-  pub of_lengths : lengths ≡ p.lengths
-  pub of_running : row ≡ running p s
-  pub of_task : t ≡ task_at s k
+-- an answer and a state are those of an outcome
+abbrev pub Answers : Outcome → Answer → State → Type 0
+Answers o a s = (a ≡ answer_of o) × (s ≡ o.state)
 
 -- a number that a host hands over, as a row of one byte
 unfoldable pub narrow : ℕ → ℕ
@@ -69,20 +41,13 @@ narrow row = elim (ltb row no_row) [ true ↦ row | false ↦ no_row ]
 unfoldable pub spent_at : Plan → State → ℕ → Bool
 spent_at p s k = in_section p (task_at s k) && eqb (section_left p s k).0 0
 
--- (d) budgets left, by the lists that they are made of
-unfoldable pub left_refilled : List ℕ → List BudgetLeft → List ℕ → List BudgetLeft
-left_refilled budgets left refill =
-    listed most_subsystems (λ c. elim (leb (get_or refill c 0) 1) [ true ↦ record { 0 = get_or budgets c 0 } | false ↦ get_or left c (record { 0 = 0 }) ])
+-- (d) budget left of one subsystem
+unfoldable pub left_next : Plan → State → ℕ → BudgetLeft
+left_next p s c = elim (leb (refill_of s c) 1) [ true ↦ record { 0 = budget p c } | false ↦ left_of s c ]
 
--- (d) ticks to refill, by the lists that they are made of
-unfoldable pub refill_refilled : List ℕ → List ℕ → List ℕ
-refill_refilled periods refill =
-    listed most_subsystems (λ c. elim (leb (get_or refill c 0) 1) [ true ↦ get_or periods c 0 | false ↦ get_or refill c 0 - 1 ])
-
--- the subsystem chosen and the task taken in it
-pub record Chooses (p : Plan) (s : State) (c : Choice) : Type 0 where
-  pub subsystem : c.subsystem ≡ chosen p s
-  pub task : c.task ≡ chosen_task p s
+-- (d) its ticks to refill
+unfoldable pub refill_next : Plan → State → ℕ → ℕ
+refill_next p s c = elim (leb (refill_of s c) 1) [ true ↦ period p c | false ↦ refill_of s c - 1 ]
 
 -- state u and the tasks ended are those after (a), and the choice is that of the state then
 pub record Settles (p : Plan) (s u : State) (x : Settled) : Type 0 where

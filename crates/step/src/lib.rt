@@ -2,9 +2,7 @@
 #![tactic(auto)]
 
 ghost use Rattle.std.specs.Prelude.{◌≡◌};
-ghost use Rattle.below.specs.Listed.{listed};
-ghost use Rattle.plan.specs.Ceiling.{ceiling};
-ghost use Rattle.step.specs.Lent.{rows_of};
+ghost use Rattle.state.specs.declared.State.{State};
 ghost use Rattle.step.specs.Step.{unread, step, answer_of};
 
 pub mod event;
@@ -14,7 +12,7 @@ mod tick;
 
 use event::stepped;
 use plan::Plan;
-use state::{Clocks, State};
+use state::State;
 
 // What an event gives. answer is the number of the answer; subsystem and task are rows, 255 for none; ended has bit i set where task i was ended.
 #[derive(Clone, Copy)]
@@ -35,86 +33,44 @@ pub struct Answer {
     pub ended: u32,
 }
 
-// The same where the columns of the tasks are lent and altered: beside them, the clocks that the event leaves.
-#[derive(Clone, Copy)]
-pub struct Reply {
-    pub answer: u8,
-    pub subsystem: u8,
-    pub task: u8,
-    pub ended: u32,
-    pub clocks: Clocks,
-}
-
-// What a step reads of a plan beside the lengths: its rows, and the ceilings of its resources, worked out once.
-#[derive(Clone, Copy)]
-pub struct Rows {
-    pub subsystems: u8,
-    pub tasks: u8,
-    pub resources: u8,
-    pub periods: [u16; 8],
-    pub budgets: [u16; 8],
-    pub owners: [u8; 32],
-    pub kinds: [u8; 16],
-    pub ceilings: [u8; 16],
-}
-
-// The rows of a plan beside ceilings that were worked out before.
-pub fn rows_with(p: Plan, ceilings: [u8; 16]) -> Rows
-    ensures { ceilings ≡ listed 16 (ceiling p) → result ≡ rows_of p }
-{
-    let periods = p.periods;
-    let budgets = p.budgets;
-    let owners = p.owners;
-    let kinds = p.kinds;
-    Rows {
-        subsystems: p.subsystems,
-        tasks: p.tasks,
-        resources: p.resources,
-        periods,
-        budgets,
-        owners,
-        kinds,
-        ceilings,
-    }
-}
-
 // "Calls from C": a plan or a state lent as a record gets 31 and 32 too, and nothing is chosen.
-fn unread(s: State, n: u8) -> Outcome
-    ensures { result ≡ unread s n }
+#[tactic(auto, unfolding(crate::specs::Step::unread, crate::specs::Step::answer_of))]
+fn unread(n: u8) -> Answer
+    ensures { (s : State) → result ≡ answer_of (unread s n) }
 {
-    Outcome {
+    Answer {
         answer: n,
         subsystem: 255,
         task: 255,
         ended: 0,
-        state: s,
     }
 }
 
-// An event on any plan and state record: 31, then 32, then the event.
-pub fn step(p: Plan, s: State, kind: u32, task: u32, resource: u32) -> Outcome
-    ensures { result ≡ step p s kind task resource }
+// An event on any plan and state record: 31, then 32, then the event. It alters the state, and answers with the rest of the outcome.
+pub fn step_lent(p: &Plan, s: &mut State, kind: u32, task: u32, resource: u32) -> Answer
+    ensures { (result ≡ answer_of (step p.now s.old kind task resource)) × (s.new ≡ (step p.now s.old kind task resource).state) }
 {
-    if !plan::accepted(p) {
-        return unread(s, 31);
+    if !p.is_accepted() {
+        return unread(31);
     }
-    let ceilings = plan::ceilings(p);
-    if !legal::legal(p, ceilings, s) {
-        return unread(s, 32);
+    let c = p.with_ceilings();
+    if !legal::legal(&c, s) {
+        return unread(32);
     }
-    stepped(rows_with(p, ceilings), &p.lengths, s, kind, task, resource)
+    stepped(&c, s, kind, task, resource)
 }
 
-// The step on one state record that the caller lends: the step alters it, and answers with the rest of the outcome.
-pub fn step_lent(p: Plan, s: &mut State, kind: u32, task: u32, resource: u32) -> Answer
-    ensures { (result ≡ answer_of (step p s.old kind task resource)) × (s.new ≡ (step p s.old kind task resource).state) }
+// The step on a state by value.
+pub fn step(p: &Plan, s: State, kind: u32, task: u32, resource: u32) -> Outcome
+    ensures { result ≡ step p.now s kind task resource }
 {
-    let o = step(p, *s, kind, task, resource);
-    *s = o.state;
-    Answer {
-        answer: o.answer,
-        subsystem: o.subsystem,
-        task: o.task,
-        ended: o.ended,
+    let mut state = s;
+    let a = step_lent(p, &mut state, kind, task, resource);
+    Outcome {
+        answer: a.answer,
+        subsystem: a.subsystem,
+        task: a.task,
+        ended: a.ended,
+        state,
     }
 }

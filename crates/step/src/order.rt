@@ -1,134 +1,105 @@
 // "Events": the refusals 2 to 9, tried in the order of the kind's row of the table.
-ghost use Rattle.std.specs.Prelude.{◌≡◌, not, ◌||◌, [], ◌<◌, eqb};
-ghost use Rattle.plan.specs.declared.Plan.{Plan};
+ghost use Rattle.std.specs.Prelude.{◌≡◌, not, ◌||◌, [], eqb, get_or};
 ghost use Rattle.plan.specs.Plan.{declares};
-ghost use Rattle.plan.specs.Lent.{lent};
 ghost use Rattle.state.specs.declared.State.{State};
-ghost use Rattle.state.specs.State.{last_held, in_section, holds};
-ghost use Rattle.step.specs.Lent.{Asked};
-ghost use Rattle.step.specs.Refusals.{no_such_row, refuses, refusal};
+ghost use Rattle.state.specs.State.{holds, last_held, in_section};
+ghost use Rattle.step.specs.Lent.{kind_number, AskedOf};
+ghost use Rattle.step.specs.Refusals.{order_table, uses_resource, no_such_row, refuses, refusal};
 
-use plan::tables::length_at;
-use state::{Task, held_at, in_section, last_held};
+use plan::Plan;
+use state::Task;
 
-// A row a kind: release, lock, unlock, end, tick. 0 ends a row.
-const ORDER: [[u8; 5]; 5] = [
-    [2, 3, 0, 0, 0],
-    [2, 4, 5, 6, 9],
-    [2, 4, 7, 0, 0],
-    [2, 4, 8, 0, 0],
-    [0, 0, 0, 0, 0],
-];
-
-// Lock and unlock use a resource row.
-fn no_such_row(tasks: u8, resources: u8, kind: u8, k: u8, r: u8) -> bool
-    ensures { result ≡ no_such_row (lent 0 tasks resources [] [] [] [] []) kind k r }
-{
-    if tasks <= k {
-        return true;
-    }
-    if kind == 1 {
-        return resources <= r;
-    }
-    if kind == 2 {
-        return resources <= r;
-    }
-    false
+// The kinds of events at rows.
+#[derive(Clone, Copy, PartialEq, Eq)]
+pub enum Kind {
+    Release,
+    Lock,
+    Unlock,
+    End,
 }
 
-fn declares(lengths: &[u16], k: u8, r: u8) -> bool
-    ensures { result ≡ declares (lent 0 0 0 [] [] [] [] lengths.now) k r }
-{
-    length_at(lengths, k, r) != 65535
+// What a refusal is asked of: the kind of the event, its rows, the task as it stands, and the row that runs.
+#[derive(Clone, Copy)]
+pub struct Asked {
+    pub kind: Kind,
+    pub row: u8,
+    pub resource: u8,
+    pub task: Task,
+    pub running: u8,
 }
 
-fn holds(t: Task, r: u8) -> bool
-    ensures { result ≡ holds t r }
-{
-    let mut i: u8 = 0;
-    while i < t.count {
-        if held_at(t, i) == r {
-            return true;
+impl Kind {
+    // The table: the refusals that an event of the kind is tried for, in their order.
+    #[tactic(auto, unfolding(crate::specs::Refusals::order_table))]
+    fn order(self) -> &'static [u8]
+        ensures { result.now ≡ get_or order_table (kind_number self) [] }
+    {
+        match self {
+            Kind::Release => &[2, 3],
+            Kind::Lock => &[2, 4, 5, 6, 9],
+            Kind::Unlock => &[2, 4, 7],
+            Kind::End => &[2, 4, 8],
         }
-        i += 1;
     }
-    false
-}
 
-// The job holds a global, or holds this one.
-fn holds_already(kinds: &[u8], t: Task, r: u8) -> bool
-    ensures { result ≡ (in_section (lent 0 0 0 [] [] [] kinds.now []) t || holds t r) }
-{
-    if in_section(kinds, t) {
-        return true;
-    }
-    holds(t, r)
-}
-
-// Not the resource it took last, or it holds none.
-fn not_last(t: Task, r: u8) -> bool
-    ensures { result ≡ (eqb t.count 0 || not (eqb (last_held t) r)) }
-{
-    if t.count == 0 {
-        return true;
-    }
-    last_held(t) != r
-}
-
-// Refusal n applies to the event of task k, which is t, where running is the row that runs.
-fn refuses<'a>(
-    tasks: u8,
-    resources: u8,
-    kinds: &'a [u8],
-    lengths: &'a [u16],
-    running: u8,
-    t: Task,
-    kind: u8,
-    k: u8,
-    r: u8,
-    n: u8,
-) -> bool
-    ensures { (p : Plan) (s : State) → Asked p s tasks resources kinds.now lengths.now running t k → result ≡ refuses p s kind k r n }
-{
-    match n {
-        2 => no_such_row(tasks, resources, kind, k, r),
-        3 => t.condition != 0,
-        4 => running != k,
-        5 => !declares(lengths, k, r),
-        6 => holds_already(kinds, t, r),
-        7 => not_last(t, r),
-        8 => 1 <= t.count,
-        9 => 4 <= t.count,
-        _ => false,
+    // Lock and unlock use a resource row.
+    #[tactic(auto, unfolding(crate::specs::Refusals::uses_resource))]
+    fn uses_resource(self) -> bool
+        ensures { result ≡ uses_resource (kind_number self) }
+    {
+        matches!(self, Kind::Lock | Kind::Unlock)
     }
 }
 
-// The first refusal of the kind's row that applies; 0 if none does.
-pub fn refusal<'a>(
-    tasks: u8,
-    resources: u8,
-    kinds: &'a [u8],
-    lengths: &'a [u16],
-    running: u8,
-    t: Task,
-    kind: u8,
-    k: u8,
-    r: u8,
-) -> u8
-    requires { kind < 5 }
-    ensures { (p : Plan) (s : State) → Asked p s tasks resources kinds.now lengths.now running t k → result ≡ refusal p s kind k r }
-{
-    let row = ORDER[kind as usize];
-    let mut i: usize = 0;
-    while i < 5 {
-        let n = row[i];
-        if n == 0 {
-            return 0;
+impl Asked {
+    #[tactic(auto, unfolding(crate::specs::Refusals::no_such_row))]
+    fn no_such_row(&self, p: &Plan) -> bool
+        ensures { result ≡ no_such_row p.now (kind_number self.now.kind) self.now.row self.now.resource }
+    {
+        p.tasks <= self.row || (self.kind.uses_resource() && p.resources <= self.resource)
+    }
+
+    // The job holds a global, or holds this one.
+    fn holds_already(&self, p: &Plan) -> bool
+        ensures { result ≡ (in_section p.now self.now.task || holds self.now.task self.now.resource) }
+    {
+        self.task.in_section(p) || self.task.holds(self.resource)
+    }
+
+    // Not the resource it took last, or it holds none.
+    fn not_last(&self) -> bool
+        ensures { result ≡ (eqb self.now.task.count 0 || not (eqb (last_held self.now.task) self.now.resource)) }
+    {
+        self.task.count == 0 || self.task.last_held() != self.resource
+    }
+
+    // Refusal n applies.
+    #[tactic(auto, unfolding(crate::specs::Refusals::refuses, crate::specs::Refusals::tests, crate::specs::Refusals::not_idle, crate::specs::Refusals::not_running, crate::specs::Refusals::not_declared, crate::specs::Refusals::holds_already, crate::specs::Refusals::not_last, crate::specs::Refusals::still_holding, crate::specs::Refusals::fifth_held, state::specs::State::is_idle))]
+    fn refuses(&self, p: &Plan, n: u8) -> bool
+        ensures { (s : State) → AskedOf p.now s self.now → result ≡ refuses p.now s (kind_number self.now.kind) self.now.row self.now.resource n }
+    {
+        match n {
+            2 => self.no_such_row(p),
+            3 => self.task.condition != 0,
+            4 => self.running != self.row,
+            5 => !p.declares(self.row, self.resource),
+            6 => self.holds_already(p),
+            7 => self.not_last(),
+            8 => 1 <= self.task.count,
+            9 => 4 <= self.task.count,
+            _ => false,
         }
-        if refuses(tasks, resources, kinds, lengths, running, t, kind, k, r, n) {
-            return n;
-        }
-        i += 1;
     }
-    0
+
+    // The first refusal of the kind's row that applies; 0 if none does.
+    pub fn refusal(&self, p: &Plan) -> u8
+        ensures { (s : State) → AskedOf p.now s self.now → result ≡ refusal p.now s (kind_number self.now.kind) self.now.row self.now.resource }
+    {
+        self.kind
+            .order()
+            .iter()
+            .copied()
+            .find(|n| self.refuses(p, *n))
+            .unwrap_or(0)
+    }
 }

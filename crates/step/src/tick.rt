@@ -1,60 +1,35 @@
-// "Events", tick: (a) to (d). The columns of the tasks are lent and altered where they lie.
-ghost use Rattle.std.specs.Prelude.{◌≡◌, List, ℕ, ◌+◌, ◌-◌, ◌<◌, ◌^◌};
-ghost use Rattle.plan.specs.declared.Plan.{Plan};
+// "Events", tick: (a) to (d). The state is lent and altered where it lies.
+ghost use Rattle.std.specs.Prelude.{◌≡◌, ◌+◌, ◌-◌, ◌<◌, ◌^◌};
+ghost use Rattle.below.specs.Listed.{listed};
 ghost use Rattle.plan.specs.Plan.{owner};
 ghost use Rattle.state.specs.State.{task_at, used_of};
-ghost use Rattle.state.specs.Update.{with_used};
 ghost use Rattle.state.specs.Sized.{Sized};
-ghost use Rattle.state.specs.Lent.{state_with};
+ghost use Rattle.state.specs.Update.{with_used};
+ghost use Rattle.choice.specs.Lent.{Lent};
 ghost use Rattle.step.specs.Events.{ended_task};
-ghost use Rattle.step.specs.Lent.{RowsOf, Lent, outcome_with, spent_at, left_refilled, refill_refilled, Settles};
+ghost use Rattle.step.specs.Lent.{Answers, spent_at, Settles, left_next, refill_next};
 ghost use Rattle.step.specs.Tick.{given_waited, charged, ran, refilled, tick_answer, ticked};
 
-use crate::shared::{chosen, length_fits_budget};
-use crate::{Reply, Rows};
-use choice::runs;
-use plan::tables::{byte_at, word_at};
-use state::{
-    BudgetLeft, Clocks, idle_task, in_section, left_at, put_task, section_left, started, taking,
-    task_at, with_left, with_used,
-};
+use crate::Answer;
+use crate::shared::length_fits_budget;
+use choice::{choose, runs};
+use plan::{CeiledPlan, Plan};
+use state::{BudgetLeft, State, Task};
 
-// What (a) leaves beside the tasks: the clocks, the tasks ended, and the choice that is made then.
+// What (a) leaves beside the state: the tasks ended, and the choice that is made then.
 #[derive(Clone, Copy)]
 struct Settled {
-    clocks: Clocks,
     ended: u32,
     subsystem: u8,
     task: u8,
 }
 
 // (a) Task k holds a global whose length is used up.
-fn is_spent<'a, 'b>(
-    rows: Rows,
-    lengths: &'a [u16],
-    q: Clocks,
-    conditions: &'b [u8; 32],
-    waits: &'b [u8; 32],
-    counts: &'b [u8; 32],
-    held: &'b [u8; 128],
-    k: u8,
-) -> bool
-    ensures { (p : Plan) → RowsOf p rows lengths.now → result ≡ spent_at p (state_with q conditions.now waits.now counts.now held.now) k }
+#[tactic(auto, unfolding(crate::specs::Lent::spent_at))]
+fn is_spent(p: &Plan, s: &State, k: u8) -> bool
+    ensures { result ≡ spent_at p.now s.now k }
 {
-    if !in_section(&rows.kinds, task_at(conditions, waits, counts, held, k)) {
-        return false;
-    }
-    let left = section_left(
-        &rows.owners,
-        lengths,
-        &q.used,
-        conditions,
-        waits,
-        counts,
-        held,
-        k,
-    );
-    left.0 == 0
+    s.task(k).in_section(p) && s.section_left(p, k).0 == 0
 }
 
 // A set of tasks with one more. A task that is in it already would not fit, and the set stays.
@@ -64,188 +39,121 @@ fn with_ended(ended: u32, k: u8) -> u32
     if 32 <= k {
         return ended;
     }
-    let sum = (ended as u64) + (1u64 << (k as u64));
-    if 4294967295 < sum {
-        return ended;
-    }
-    sum as u32
+    ended.saturating_add(1u32 << (k as u32))
 }
 
 // (a) Task k is ended, all it holds is freed and used is set to 0.
-fn shut_one(
-    rows: Rows,
-    q: Clocks,
-    conditions: &mut [u8; 32],
-    waits: &mut [u8; 32],
-    counts: &mut [u8; 32],
-    held: &mut [u8; 128],
-    k: u8,
-) -> Clocks
-    ensures { (p : Plan) → RowsOf p rows p.lengths → Sized (state_with q conditions.old waits.old counts.old held.old)
-        → state_with result conditions.new waits.new counts.new held.new ≡ with_used (ended_task (state_with q conditions.old waits.old counts.old held.old) k) (owner p k) 0 }
+#[tactic(auto, unfolding(crate::specs::Events::ended_task))]
+fn shut_one(p: &Plan, s: &mut State, k: u8)
+    ensures { s.new ≡ with_used (ended_task s.old k) (owner p.now k) 0 }
 {
-    put_task(conditions, waits, counts, held, k, idle_task());
-    with_used(q, byte_at(&rows.owners, k as usize), 0)
+    s.put_task(k, Task::idle());
+    s.set_used(p.owner(k), 0);
 }
 
 // (a) while it is so, the choice being made again.
-fn settle(
-    rows: Rows,
-    lengths: &[u16],
-    q: Clocks,
-    conditions: &mut [u8; 32],
-    waits: &mut [u8; 32],
-    counts: &mut [u8; 32],
-    held: &mut [u8; 128],
-) -> Settled
-    ensures { (p : Plan) → Lent p (state_with q conditions.old waits.old counts.old held.old) rows lengths.now → Settles p (state_with q conditions.old waits.old counts.old held.old) (state_with result.clocks conditions.new waits.new counts.new held.new) result }
+fn settle(c: &CeiledPlan, s: &mut State) -> Settled
+    ensures { Lent c.now s.old → Sized s.old → Settles c.now.plan s.old s.new result }
 {
-    let mut clocks = q;
     let mut ended: u32 = 0;
-    let left = q.left;
-    let mut c = chosen(rows, left, conditions, counts, held);
-    let mut turn: u8 = 0;
-    while turn < rows.subsystems {
-        if !is_spent(
-            rows, lengths, clocks, conditions, waits, counts, held, c.task,
-        ) {
+    let mut x = choose(c, s);
+    for _turn in 0..c.plan.subsystems {
+        if !is_spent(&c.plan, s, x.task) {
             break;
         }
-        clocks = shut_one(rows, clocks, conditions, waits, counts, held, c.task);
-        ended = with_ended(ended, c.task);
-        let budgets = clocks.left;
-        c = chosen(rows, budgets, conditions, counts, held);
-        turn += 1;
+        shut_one(&c.plan, s, x.task);
+        ended = with_ended(ended, x.task);
+        x = choose(c, s);
     }
     Settled {
-        clocks,
         ended,
-        subsystem: c.subsystem,
-        task: c.task,
+        subsystem: x.subsystem,
+        task: x.task,
     }
 }
 
 // (b) If task k waits and its length is at most the budget left, it takes the resource.
-fn given_waited(
-    rows: Rows,
-    lengths: &[u16],
-    q: Clocks,
-    conditions: &mut [u8; 32],
-    waits: &mut [u8; 32],
-    counts: &mut [u8; 32],
-    held: &mut [u8; 128],
-    k: u8,
-)
-    ensures { (p : Plan) → RowsOf p rows lengths.now → Sized (state_with q conditions.old waits.old counts.old held.old) → (task_at (state_with q conditions.old waits.old counts.old held.old) k).count < 255
-        → state_with q conditions.new waits.new counts.new held.new ≡ given_waited p (state_with q conditions.old waits.old counts.old held.old) k }
+#[tactic(auto, unfolding(crate::specs::Tick::given_waited, crate::specs::Events::with_taken, state::specs::State::is_waiting))]
+fn give_waited(p: &Plan, s: &mut State, k: u8)
+    ensures { (task_at s.old k).count < 255 → s.new ≡ given_waited p.now s.old k }
 {
-    let t = task_at(conditions, waits, counts, held, k);
-    if t.condition != 3 {
-        return;
-    }
-    let left = q.left;
-    if length_fits_budget(&rows.owners, lengths, left, k, t.waits) {
-        put_task(conditions, waits, counts, held, k, taking(t, t.waits));
+    let t = s.task(k);
+    if t.condition == 3 && length_fits_budget(p, s, k, t.waits) {
+        s.put_task(k, t.taking(t.waits));
     }
 }
 
 // (c) Subsystem c is charged one tick.
-fn charged(q: Clocks, c: u8) -> Clocks
-    ensures { (conditions waits counts held : List ℕ) → state_with result conditions waits counts held ≡ charged (state_with q conditions waits counts held) c }
+#[tactic(auto, unfolding(crate::specs::Tick::charged))]
+fn charge(s: &mut State, c: u8)
+    ensures { s.new ≡ charged s.old c }
 {
-    let left = q.left;
-    let before = left_at(left, c);
-    with_left(q, c, one_charged(before))
-}
-
-fn one_charged(q: BudgetLeft) -> BudgetLeft
-    ensures { result ≡ record { 0 = q.0 - 1 } }
-{
-    if q.0 < 1 {
-        return BudgetLeft(0);
-    }
-    BudgetLeft(q.0 - 1)
-}
-
-fn one_more(n: u16) -> u16
-    ensures { n < 65535 → result ≡ n + 1 }
-{
-    if n < 65535 { n + 1 } else { n }
+    let left = s.left_of(c);
+    s.set_left(c, BudgetLeft(left.0.saturating_sub(1)));
 }
 
 // (c) The running task k, if any, is started and, inside a global section, its used count rises by one.
-fn ran(
-    rows: Rows,
-    q: Clocks,
-    conditions: &mut [u8; 32],
-    waits: &mut [u8; 32],
-    counts: &mut [u8; 32],
-    held: &mut [u8; 128],
-    k: u8,
-) -> Clocks
-    ensures { (p : Plan) → RowsOf p rows p.lengths → Sized (state_with q conditions.old waits.old counts.old held.old) → used_of (state_with q conditions.old waits.old counts.old held.old) (owner p k) < 65535
-        → state_with result conditions.new waits.new counts.new held.new ≡ ran p (state_with q conditions.old waits.old counts.old held.old) k }
+#[tactic(auto, unfolding(crate::specs::Tick::ran))]
+fn run(p: &Plan, s: &mut State, k: u8)
+    ensures { used_of s.old (owner p.now k) < 65535 → s.new ≡ ran p.now s.old k }
 {
-    if rows.tasks <= k {
-        return q;
+    if p.tasks <= k {
+        return;
     }
-    let t = started(task_at(conditions, waits, counts, held, k));
-    put_task(conditions, waits, counts, held, k, t);
-    if !in_section(&rows.kinds, t) {
-        return q;
+    let t = s.task(k).started();
+    s.put_task(k, t);
+    if t.in_section(p) {
+        let c = p.owner(k);
+        s.set_used(c, s.used_of(c).saturating_add(1));
     }
-    let c = byte_at(&rows.owners, k as usize);
-    with_used(q, c, one_more(word_at(&q.used, c as usize)))
 }
 
-// (d) Budgets left when all ticks to refill fall by one: at 0 they are full again.
-fn refilled_left(left: [BudgetLeft; 8], refill: [u16; 8], budgets: [u16; 8]) -> [BudgetLeft; 8]
-    ensures { result ≡ left_refilled budgets left refill }
+// (d) Budget left of subsystem c when its ticks to refill fall by one: at 0 it is full again.
+#[tactic(auto, unfolding(crate::specs::Lent::left_next))]
+fn left_next(p: &Plan, s: &State, c: u8) -> BudgetLeft
+    ensures { result ≡ left_next p.now s.now c }
 {
-    let mut next = left;
-    let mut c: u8 = 0;
-    while c < 8 {
-        let at = c as usize;
-        if refill[at] <= 1 {
-            next[at] = BudgetLeft(budgets[at]);
-        }
-        c += 1;
+    if s.refill_of(c) <= 1 {
+        BudgetLeft(p.budget(c))
+    } else {
+        s.left_of(c)
     }
-    next
 }
 
-// (d) Ticks to refill: at 0 the period is full again.
-fn refilled_refill(refill: [u16; 8], periods: [u16; 8]) -> [u16; 8]
-    ensures { result ≡ refill_refilled periods refill }
+// (d) Its ticks to refill: at 0 the period is full again.
+#[tactic(auto, unfolding(crate::specs::Lent::refill_next))]
+fn refill_next(p: &Plan, s: &State, c: u8) -> u16
+    ensures { result ≡ refill_next p.now s.now c }
 {
-    let mut next = refill;
-    let mut c: u8 = 0;
-    while c < 8 {
-        let at = c as usize;
-        let n = refill[at];
-        next[at] = if n <= 1 { periods[at] } else { n - 1 };
-        c += 1;
-    }
-    next
+    let n = s.refill_of(c);
+    if n <= 1 { p.period(c) } else { n - 1 }
 }
 
-// (d)
-fn refilled(rows: Rows, q: Clocks) -> Clocks
-    ensures { (p : Plan) (conditions waits counts held : List ℕ) → RowsOf p rows p.lengths → state_with result conditions waits counts held ≡ refilled p (state_with q conditions waits counts held) }
+fn refilled_left(p: &Plan, s: &State) -> [BudgetLeft; 8]
+    ensures { result ≡ listed 8 (left_next p.now s.now) }
 {
-    let left = q.left;
-    let refill = q.refill;
-    let used = q.used;
-    let budgets = rows.budgets;
-    let periods = rows.periods;
-    Clocks {
-        left: refilled_left(left, refill, budgets),
-        refill: refilled_refill(refill, periods),
-        used,
-    }
+    std::array::from_fn(|c| left_next(p, s, c as u8))
+}
+
+fn refilled_refill(p: &Plan, s: &State) -> [u16; 8]
+    ensures { result ≡ listed 8 (refill_next p.now s.now) }
+{
+    std::array::from_fn(|c| refill_next(p, s, c as u8))
+}
+
+// (d) for every subsystem.
+#[tactic(auto, unfolding(crate::specs::Tick::refilled, crate::specs::Lent::left_next, crate::specs::Lent::refill_next))]
+fn refill(p: &Plan, s: &mut State)
+    ensures { s.new ≡ refilled p.now s.old }
+{
+    let left = refilled_left(p, s);
+    let refill = refilled_refill(p, s);
+    s.left = left;
+    s.refill = refill;
 }
 
 // 0, or 10 where a section was shut.
+#[tactic(auto, unfolding(crate::specs::Tick::tick_answer))]
 fn tick_answer(ended: u32) -> u8
     ensures { result ≡ tick_answer ended }
 {
@@ -253,38 +161,22 @@ fn tick_answer(ended: u32) -> u8
 }
 
 // A tick. With no subsystem chosen, after (a) too, only (d) follows.
-pub fn tick(
-    rows: Rows,
-    lengths: &[u16],
-    q: Clocks,
-    conditions: &mut [u8; 32],
-    waits: &mut [u8; 32],
-    counts: &mut [u8; 32],
-    held: &mut [u8; 128],
-) -> Reply
-    ensures { (p : Plan) → Lent p (state_with q conditions.old waits.old counts.old held.old) rows lengths.now
-        → outcome_with result conditions.new waits.new counts.new held.new ≡ ticked p (state_with q conditions.old waits.old counts.old held.old) }
+pub fn tick(c: &CeiledPlan, s: &mut State) -> Answer
+    ensures { Lent c.now s.old → Sized s.old → Answers (ticked c.now.plan s.old) result s.new }
 {
-    let x = settle(rows, lengths, q, conditions, waits, counts, held);
-    let shut = x.clocks;
-    if x.subsystem == 255 {
-        return Reply {
-            answer: tick_answer(x.ended),
-            subsystem: 255,
-            task: 255,
-            ended: x.ended,
-            clocks: refilled(rows, shut),
-        };
+    let x = settle(c, s);
+    let mut task: u8 = 255;
+    if x.subsystem != 255 {
+        give_waited(&c.plan, s, x.task);
+        task = runs(s, x.task);
+        charge(s, x.subsystem);
+        run(&c.plan, s, task);
     }
-    given_waited(rows, lengths, shut, conditions, waits, counts, held, x.task);
-    let k = runs(conditions, x.task);
-    let paid = charged(shut, x.subsystem);
-    let after = ran(rows, paid, conditions, waits, counts, held, k);
-    Reply {
+    refill(&c.plan, s);
+    Answer {
         answer: tick_answer(x.ended),
         subsystem: x.subsystem,
-        task: k,
+        task,
         ended: x.ended,
-        clocks: refilled(rows, after),
     }
 }

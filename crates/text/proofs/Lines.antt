@@ -1,7 +1,7 @@
 -- Laws of lines, of a line's body and of fields, by the first line feed or the first tab.
 use mathlib.Core.Path.{◌≡◌, refl}
 use mathlib.Core.List.{List, [], ◌∷◌}
-use mathlib.Core.Option.{none, some}
+use Rattle.std.proofs.Common.{None, Some}
 use Prim.Native.Nat.{ℕ, suc, ◌<◌}
 use native.Mathlib.Nat.{not-suc-le-zero}
 use native.Mathlib.Omega.{arith}
@@ -22,12 +22,12 @@ lines_whole h (Whole.on e Whole.end) = rw (lines, e)
 lines_whole h (Whole.on e (Whole.on {x = y} {xs = ys} f w)) = rw (lines, e, lines_whole {t = y ∷ ys} (omega arith) (Whole.on f w))
 
 -- the body of such a line is what stands before the line feed; a line without one has none
-pub body_feed : {t : List ℕ} {m : ℕ} → Parted line_feed t m → body (take (suc m) t) ≡ some (take m t)
+pub body_feed : {t : List ℕ} {m : ℕ} → Parted line_feed t m → body (take (suc m) t) ≡ Some (take m t)
 unfolding body empty_or_none
 body_feed Parted.here = refl
 body_feed (Parted.on e p) = rw (body, e, body_feed p)
 
-pub body_whole : {t : List ℕ} → Whole line_feed t → body t ≡ none
+pub body_whole : {t : List ℕ} → Whole line_feed t → body t ≡ None
 unfolding body
 body_whole Whole.end = refl
 body_whole (Whole.on e w) = rw (body, e, body_whole w)

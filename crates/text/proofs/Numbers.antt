@@ -1,6 +1,6 @@
 -- Laws of number: how a row of digits is read on, and when a field writes no number.
 use mathlib.Core.Path.{◌≡◌, refl}
-use mathlib.Core.Bool.{false, ◌&&◌, and-false, and-true, or-true}
+use mathlib.Core.Bool.{true, false, ◌&&◌, and-false, and-true, or-true}
 use mathlib.Core.List.{List, ◌∷◌}
 use Prim.Native.Nat.{ℕ, suc, ◌+◌, ◌-◌, ◌*◌, ◌≤◌, ◌<◌}
 use native.Mathlib.Omega.{arith}
@@ -8,42 +8,35 @@ use lib.Dec.{leb, eqb}
 use lib.ListN.{length, get_or, drop, drop_of_length-le}
 use lib.Seq.{drop-cons}
 use borrow.Author.Tests.{le-leb, lt-leb, ne_eqb}
-use Rattle.text.specs.declared.Number.TheVariants.{Written, Nothing}
+use Rattle.std.proofs.Common.{Some, None}
 use Rattle.text.specs.Lines.{tab}
 use Rattle.text.specs.Numbers.{is_digit, digits, is_number, worth, number}
 use Rattle.text.specs.Digits.{behind}
 use Rattle.text.proofs.Parted.{Parted}
 
--- a digit is read; a byte below or above the digits ends it
+-- a digit is read; another byte ends it
 module _ (b : ℕ) (bs : List ℕ) (n : ℕ) where
-  behind_cons : 48 ≤ b → b ≤ 57 → behind (b ∷ bs) n ≡ behind bs (10 * n + (b - 48))
-  unfolding behind digits worth is_digit
-  behind_cons l u = rw (behind, digits, is_digit, le-leb _ _ l, le-leb _ _ u)
+  behind_cons : is_digit b ≡ true → behind (b ∷ bs) n ≡ behind bs (10 * n + (b - 48))
+  unfolding behind digits worth
+  behind_cons e = rw (behind, digits, e)
 
-  behind_not : is_digit b ≡ false → behind (b ∷ bs) n ≡ Nothing
+  behind_not : is_digit b ≡ false → behind (b ∷ bs) n ≡ None
   unfolding behind digits
   behind_not e = rw (behind, digits, e)
 
 -- reading on at a place of a text
 module _ (s : List ℕ) (i n : ℕ) where
-  pub behind_digit : i < length s → 48 ≤ get_or s i 0 → get_or s i 0 ≤ 57
-      → behind (drop i s) n ≡ behind (drop (suc i) s) (10 * n + (get_or s i 0 - 48))
-  behind_digit h l u = rw (drop-cons s i 0 h) (behind_cons _ _ n l u)
+  pub behind_digit : i < length s → is_digit (get_or s i 0) ≡ true → behind (drop i s) n ≡ behind (drop (suc i) s) (10 * n + (get_or s i 0 - 48))
+  behind_digit h e = rw (drop-cons s i 0 h) (behind_cons _ _ n e)
 
-  pub behind_below : i < length s → get_or s i 0 < 48 → behind (drop i s) n ≡ Nothing
-  unfolding is_digit
-  behind_below h l = rw (drop-cons s i 0 h) (behind_not _ _ n (rw (lt-leb 48 (get_or s i 0) l)))
+  pub behind_other : i < length s → is_digit (get_or s i 0) ≡ false → behind (drop i s) n ≡ None
+  behind_other h e = rw (drop-cons s i 0 h) (behind_not _ _ n e)
 
-  pub behind_above : i < length s → 57 < get_or s i 0 → behind (drop i s) n ≡ Nothing
-  unfolding is_digit
-  behind_above h u =
-      rw (drop-cons s i 0 h) (behind_not _ _ n (rw (lt-leb (get_or s i 0) 57 u) (and-false (leb 48 (get_or s i 0)))))
-
-  pub behind_end : length s ≤ i → behind (drop i s) n ≡ Written n
+  pub behind_end : length s ≤ i → behind (drop i s) n ≡ Some n
   unfolding behind digits worth
   behind_end h = rw (drop_of_length-le s h)
 
-number_not : (f : List ℕ) → is_number f ≡ false → number f ≡ Nothing
+number_not : (f : List ℕ) → is_number f ≡ false → number f ≡ None
 unfolding number
 number_not f e = rw (number, e)
 
@@ -53,15 +46,15 @@ number_is f e = rw (number, e)
 
 module _ (f : List ℕ) where
   -- no number: too short, too long, or a zero in front of others
-  pub number_empty : length f ≡ 0 → number f ≡ Nothing
+  pub number_empty : length f ≡ 0 → number f ≡ None
   unfolding is_number
   number_empty e = number_not f (rw (is_number, e))
 
-  pub number_long : 5 < length f → number f ≡ Nothing
+  pub number_long : 5 < length f → number f ≡ None
   unfolding is_number
   number_long h = number_not f (rw (is_number, lt-leb (length f) 5 h, and-false (leb 1 (length f))))
 
-  pub number_zero : (length f ≡ 1 → ⊥) → get_or f 0 0 ≡ 48 → number f ≡ Nothing
+  pub number_zero : (length f ≡ 1 → ⊥) → get_or f 0 0 ≡ 48 → number f ≡ None
   unfolding is_number
   number_zero h z =
       number_not f (rw (is_number, ne_eqb (length f) 1 h, z) (and-false (leb 1 (length f) && leb (length f) 5 && digits f)))
@@ -84,6 +77,6 @@ unfolding digits is_digit
 digits_tab Parted.here = refl
 digits_tab (Parted.on {x = x} e p) = rw (digits_tab p) (and-false (is_digit x))
 
-pub number_tab : {t : List ℕ} {m : ℕ} → Parted tab t m → number t ≡ Nothing
+pub number_tab : {t : List ℕ} {m : ℕ} → Parted tab t m → number t ≡ None
 unfolding is_number
 number_tab {t} p = number_not t (rw (is_number, digits_tab p, and-false (leb 1 (length t) && leb (length t) 5)))

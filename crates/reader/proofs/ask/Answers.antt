@@ -12,15 +12,15 @@ pub returns-then-not-has_margins : goal.returns-then-not-has_margins
 unfolding asked has_margins
 returns-then-not-has_margins c = sym (asked_refused _ _ (sym c.has_margins.ensures ∙ c.if-not-has_margins.true)) ∙ ap (λ (r : Reading). asked_of r c.args.row) c.read-r.ensures
 
-pub returns-then-row-p : goal.returns-then-row-p
+pub returns-then-row-r : goal.returns-then-row-r
 unfolding asked has_margins
-returns-then-row-p c =
+returns-then-row-r c =
     ap Margin (to_z-of_z {w = w64} {z = c.margin.result} (record { sfits = c.margin.type_inv }) ∙ c.margin.ensures)
-    ∙ sym (asked_margin _ _ (sym c.has_margins.ensures ∙ c.if-not-has_margins.false) c.if-row-p.true)
+    ∙ sym (asked_margin _ _ (sym c.has_margins.ensures ∙ c.if-not-has_margins.false) c.if-row-r.true)
     ∙ ap (λ (r : Reading). asked_of r c.args.row) c.read-r.ensures
 
 pub returns : goal.returns
 unfolding asked has_margins
 returns c =
-    sym (asked_no_row _ _ (sym c.has_margins.ensures ∙ c.if-not-has_margins.false) c.if-row-p.false)
+    sym (asked_no_row _ _ (sym c.has_margins.ensures ∙ c.if-not-has_margins.false) c.if-row-r.false)
     ∙ ap (λ (r : Reading). asked_of r c.args.row) c.read-r.ensures

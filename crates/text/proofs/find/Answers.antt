@@ -1,26 +1,9 @@
-use mathlib.Core.Path.{refl}
-use native.Mathlib.Numerals.{add-one}
-use native.Mathlib.Omega.{arith}
-use Rattle.text.proofs.Until.{until_here, until_on, until_past}
+use Rattle.std.proofs.Common.{arith}
+use Rattle.text.proofs.Until.{until_past, until_le}
 use Rattle.text.proofs.find.Goals as goal
 
-pub loop-i-init : goal.loop-i-init
-loop-i-init c = refl
+pub returns-in_default : goal.returns-in_default
+returns-in_default c = let h = until_past c.args.b c.args.s.now c.args.at (grind arith) in omega arith
 
-pub returns-then-s-i : goal.returns-then-s-i
-returns-then-s-i c =
-    let a = c.args in
-    let h = until_here a.b a.s.now c.loop-i.i (omega arith) c.if-s-i.true in
-    omega arith
-
-pub loop-i-preserved : goal.loop-i-preserved
-loop-i-preserved c =
-    let a = c.args in
-    let h = until_on a.b a.s.now c.loop-i.i (omega arith) c.if-s-i.false in
-    rw add-one (omega arith)
-
-pub returns : goal.returns
-returns c =
-    let a = c.args in
-    let h = until_past a.b a.s.now c.loop-i.i (omega arith) in
-    omega arith
+pub overflow_add-result : goal.overflow_add-result
+overflow_add-result c = let h = until_le c.args.b c.in-Some.rest.now in omega (arith, c.in-Some.ensures)

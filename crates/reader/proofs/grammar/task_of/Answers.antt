@@ -1,12 +1,11 @@
--- `reader::grammar::task_of` meets its contract: its one number is the last.
-use mathlib.Core.Path.{sym, ◌∙◌}
+-- Its one number is the last.
+use Rattle.std.proofs.Common.{sym, ◌∙◌}
 use Rattle.reader.specs.declared.Line.TheVariants.{Task}
 use Rattle.reader.proofs.Fields.{last_written, last_not}
 use Rattle.reader.proofs.grammar.task_of.Goals as goal
 
-pub returns-in_default : goal.returns-in_default
-returns-in_default c = sym (last_not Task _ (sym c.number_of.ensures ∙ c.in_default.is))
+pub returns-in_err-subsystem : goal.returns-in_err-subsystem
+returns-in_err-subsystem c = rw c.from_residual.ensures (sym (last_not Task _ (sym c.number_of.ensures ∙ c.in_err-subsystem.was)))
 
 pub returns : goal.returns
-returns c =
-    sym (last_written Task _ (sym c.number_of.ensures ∙ c.in-Written.is))
+returns c = sym (last_written Task _ (sym c.number_of.ensures ∙ c.in_ok-subsystem.was))

@@ -1,11 +1,6 @@
--- `reader::grammar::uses_of` meets its contract: a first number, and the pair behind it.
-use mathlib.Core.Path.{◌≡◌, refl, sym, ap, ◌∙◌}
-use mathlib.Core.List.{List}
-use Prim.Native.Nat.{ℕ, ◌+◌, ◌-◌, ◌<◌}
-use native.Mathlib.Omega.{arith}
-use lib.ListN.{length, take, drop}
-use lib.Seq.{length-take-le}
-use Rattle.text.specs.declared.Number.TheVariants.{Written}
+-- A first number, and the pair behind it.
+use Rattle.std.proofs.Common.{◌≡◌, ℕ, List, ◌+◌, ◌-◌, ◌<◌, length, take, drop, Some, refl, sym, ap, ◌∙◌, arith}
+use Rattle.text.proofs.Until.{until_le}
 use Rattle.text.specs.Lines.{fields, until, tab}
 use Rattle.text.specs.Numbers.{number, of_two, of_three}
 use Rattle.reader.specs.declared.Line.TheVariants.{Uses, Malformed}
@@ -15,22 +10,28 @@ use Rattle.reader.proofs.Fields.{too_few, three_two, none_found, first_not, firs
 use Rattle.reader.proofs.grammar.uses_of.Goals as goal
 
 -- behind the task two numbers are wanted
-front : (s : List ℕ) {m n : ℕ} → m ≡ 0 + until tab s → m < length s → number (take m s) ≡ Written n
-    → of_numbers (of_three Malformed Uses) (fields s) ≡ of_numbers (of_two Malformed (Uses n)) (fields (take (length s - (m + 1)) (drop (m + 1) s)))
-front s {m} {n} e h w = first_next s m e h _ _ w (three_two Uses n)
+front : (s : List ℕ) {m n : ℕ} {rest : List ℕ} → m ≡ 0 + until tab s → m < length s → rest ≡ take (length s - (m + 1)) (drop (m + 1) s) → number (take m s) ≡ Some n
+    → of_numbers (of_three Malformed Uses) (fields s) ≡ of_numbers (of_two Malformed (Uses n)) (fields rest)
+front s {m} {n} e h r w = first_next s m e h _ _ r w (three_two Uses n)
 
-pub returns-then-s-m : goal.returns-then-s-m
+pub overflow_add-m : goal.overflow_add-m
+overflow_add-m c = omega (arith, until_le tab c.args.s.now)
+
+pub returns-in_err-rest : goal.returns-in_err-rest
 unfolding of_three
-returns-then-s-m c = sym (too_few (of_three Malformed Uses) (λ n. refl) (none_found _ _ c.find-m.ensures (omega arith)))
+returns-in_err-rest c = rw c.from_residual.ensures (sym (too_few (of_three Malformed Uses) (λ n. refl) (none_found _ _ c.find-m.ensures (grind arith))))
 
-pub slice_bounds-number_of-end : goal.slice_bounds-number_of-end
-slice_bounds-number_of-end c = sym (length-take-le _ _ (omega arith))
+pub returns-in_err-task : goal.returns-in_err-task
+returns-in_err-task c =
+    rw c.from_residual-in_err-task.ensures (sym (first_not _ _ c.find-m.ensures (grind arith) _ (sym c.number_of.ensures ∙ c.in_err-task.was)))
 
-pub returns-in_default : goal.returns-in_default
-returns-in_default c = sym (first_not _ _ c.find-m.ensures (omega arith) _ (sym c.number_of.ensures ∙ c.in_default.is))
-
-pub returns-in_default-pair_of : goal.returns-in_default-pair_of
-returns-in_default-pair_of c = ap (of_pair (Uses _)) (sym c.in_default-pair_of.is) ∙ c.pair_of.ensures (Uses _) ∙ sym (front _ c.find-m.ensures c.if-s-m.false (sym c.number_of.ensures ∙ c.in-Written.is))
+pub returns-in_err-resource : goal.returns-in_err-resource
+returns-in_err-resource c =
+    rw c.from_residual-in_err-resource.ensures
+    (ap (of_pair (Uses c.in_ok-task.task)) (sym c.in_err-resource.was) ∙ c.pair_of.ensures (Uses c.in_ok-task.task)
+    ∙ sym (front _ c.find-m.ensures (grind arith) c.in_ok-rest.ensures.lookup.0.2 (sym c.number_of.ensures ∙ c.in_ok-task.was)))
 
 pub returns : goal.returns
-returns c = ap (of_pair (Uses _)) (sym c.in-Written-pair_of.is) ∙ c.pair_of.ensures (Uses _) ∙ sym (front _ c.find-m.ensures c.if-s-m.false (sym c.number_of.ensures ∙ c.in-Written.is))
+returns c =
+    ap (of_pair (Uses c.in_ok-task.task)) (sym c.in_ok-resource.was) ∙ c.pair_of.ensures (Uses c.in_ok-task.task)
+    ∙ sym (front _ c.find-m.ensures (grind arith) c.in_ok-rest.ensures.lookup.0.2 (sym c.number_of.ensures ∙ c.in_ok-task.was))

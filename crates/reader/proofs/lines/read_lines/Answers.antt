@@ -1,8 +1,4 @@
-use mathlib.Core.Path.{◌≡◌, refl, sym, ap, ap₂, subst, ◌∙◌}
-use mathlib.Core.Bool.{Bool, true}
-use Prim.Native.Nat.{ℕ}
-use native.Mathlib.Omega.{arith}
-use borrow.Author.Rules.{rules}
+use Rattle.std.proofs.Common.{◌≡◌, ℕ, Bool, true, sym, ap, ap₂, subst, ◌∙◌, arith, rules}
 use Rattle.plan.specs.declared.Plan.{Plan}
 use Rattle.reader.specs.declared.Verdict.{Verdict}
 use Rattle.reader.specs.declared.Line.{Line}
@@ -23,7 +19,7 @@ has_room : (p : Plan) (last n : ℕ) (l : Line) → Counts p → is_accepted (ju
 has_room p last n l c e = room p last n l c (accepted_is _ e)
 
 pub loop-at-init : goal.loop-at-init
-loop-at-init c = (ap (read_from (lines c.args.text.now) 1 0) (sym c.no_rows-t.ensures), subst Counts (sym c.no_rows-t.ensures) counts_empty, search rules, refl)
+loop-at-init c = (ap (read_from (lines c.args.text.now) 1 0) (sym c.empty_plan-plan.ensures), subst Counts (sym c.empty_plan-plan.ensures) counts_empty, search rules)
 
 pub returns-then-text-end : goal.returns-then-text-end
 returns-then-text-end c = c.refuse.ensures ∙ sym (c.loop-at.invariant.0 ∙ read_unended _ _ _ c.find-end.ensures _ _ _ c.loop-at-test.true c.if-text-end.true)
@@ -37,18 +33,19 @@ returns-then-not-is_accepted c =
     ∙ read_refused _ _ _ c.find-end.ensures _ _ _ c.if-text-end.false c.line_of-l.ensures
     (as_judged c.judge-v.ensures c.is_accepted.ensures c.if-not-is_accepted.true))
 
-pub with_line-t-requires : goal.with_line-t-requires
-with_line-t-requires c = (c.loop-at.invariant.3, has_room _ _ _ _ c.loop-at.invariant.1 (as_judged c.judge-v.ensures c.is_accepted.ensures c.if-not-is_accepted.false))
+pub with_line-requires : goal.with_line-requires
+with_line-requires c = has_room _ _ _ _ c.loop-at.invariant.1 (as_judged c.judge-v.ensures c.is_accepted.ensures c.if-not-is_accepted.false)
 
 pub loop-at-preserved : goal.loop-at-preserved
-loop-at-preserved c = (
-  c.loop-at.invariant.0
-      ∙ read_onward _ _ _ c.find-end.ensures _ _ _ c.if-text-end.false c.line_of-l.ensures (as_judged c.judge-v.ensures c.is_accepted.ensures c.if-not-is_accepted.false)
-      ∙ ap₂ (read_from _ _) (sym c.kind_of-last.ensures) (sym c.with_line-t.ensures),
-  subst Counts (sym c.with_line-t.ensures) (counts_kept _ _ c.loop-at.invariant.1 (has_room _ _ _ _ c.loop-at.invariant.1 (as_judged c.judge-v.ensures c.is_accepted.ensures c.if-not-is_accepted.false))),
-  omega (arith, c.loop-at.invariant.2, c.find-end.ensures),
-  c.with_line-t.auto.lengths ∙ c.loop-at.invariant.3,
-)
+loop-at-preserved c =
+    let a = as_judged c.judge-v.ensures c.is_accepted.ensures c.if-not-is_accepted.false in
+    (
+      c.loop-at.invariant.0
+          ∙ read_onward _ _ _ c.find-end.ensures _ _ _ c.if-text-end.false c.line_of-l.ensures a
+          ∙ ap₂ (read_from _ _) (sym c.kind_of-last.ensures) (sym c.with_line.ensures),
+      subst Counts (sym c.with_line.ensures) (counts_kept _ _ c.loop-at.invariant.1 (has_room _ _ _ _ c.loop-at.invariant.1 a)),
+      omega (arith, c.loop-at.invariant.2, c.find-end.ensures),
+    )
 
 pub returns : goal.returns
-returns c = rw c.plan_of-plan.ensures (sym (c.loop-at.invariant.0 ∙ read_ended _ _ _ _ _ c.loop-at-test.false))
+returns c = sym (c.loop-at.invariant.0 ∙ read_ended _ _ _ _ _ c.loop-at-test.false)

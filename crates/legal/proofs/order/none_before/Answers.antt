@@ -1,0 +1,6 @@
+use Rattle.std.proofs.Common.{rules, refl}
+use Rattle.below.proofs.Chains.{all_over}
+use Rattle.legal.proofs.order.none_before.Goals as goal
+
+pub returns : goal.returns
+returns c = all_over _ _ _ _ _ c.all.ensures.ran refl (λ x b q k. search rules)

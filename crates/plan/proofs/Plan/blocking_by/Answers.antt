@@ -1,0 +1,6 @@
+use Rattle.std.proofs.Common.{rules, ◌∙◌}
+use Rattle.below.proofs.Chains.{greatest_over}
+use Rattle.plan.proofs.Plan.blocking_by.Goals as goal
+
+pub returns : goal.returns
+returns c = c.unwrap_or.ensures ∙ greatest_over _ _ _ _ c.max.ensures.ran c.map.ensures.source c.map.ensures.closure (λ x r q k. search rules)

@@ -1,0 +1,7 @@
+use Rattle.std.proofs.Common.{rules, refl}
+use borrow.Author.Tests.{tests}
+use Rattle.below.proofs.Chains.{all_over}
+use Rattle.plan.proofs.Plan.lengths_fit.Goals as goal
+
+pub returns : goal.returns
+returns c = all_over _ _ _ _ _ c.all.ensures.ran refl (λ x b q k. search (rules, tests))
