@@ -2,12 +2,10 @@
 use mathlib.Core.Path.{◌≡◌, refl, sym, ap, ◌∙◌}
 use mathlib.Core.Logic.{⊎_elim}
 use mathlib.Core.Bool.{Bool, true, false, ◌&&◌}
-use mathlib.Core.List.{List}
 use Prim.Native.Nat.{ℕ, ◌≤◌, ◌<◌}
 use native.Mathlib.Nat.{eq-or-lt_of_le}
 use native.Mathlib.Omega.{arith}
 use lib.Dec.{ltb, eqb}
-use lib.ListN.{get_or}
 use borrow.Author.Tests.{lt-ltb, le-ltb, ltb-true, ltb-false, ne_eqb}
 use Rattle.below.specs.Below.{first}
 use Rattle.below.proofs.Search.{first_agree, first_absent}
@@ -16,11 +14,9 @@ use Rattle.plan.specs.declared.Plan.{Plan}
 use Rattle.plan.specs.declared.CeiledPlan.{CeiledPlan}
 use Rattle.plan.specs.Limits.{no_row}
 use Rattle.plan.specs.Plan.{owner, level, highest}
-use Rattle.plan.specs.Ceiling.{global_ceiling, ceiling}
-use Rattle.plan.specs.Facts.{Accepted}
+use Rattle.plan.specs.Ceiling.{global_ceiling}
 use Rattle.state.specs.declared.State.{State}
 use Rattle.state.specs.State.{task_at, left_of, has_budget, last_held, in_section}
-use Rattle.legal.specs.Facts.{Legal}
 use Rattle.choice.specs.Choice.{holds_at_ceiling, system_ceiling, ceiling_holder, chosen}
 use Rattle.choice.specs.Lent.{Lent}
 use Rattle.choice.specs.Columns.{section_ceiling, Found, owner_of, chosen_by}

@@ -1,7 +1,6 @@
 -- Of a legal state, what the loop over the sections finds is the system ceiling and its holder.
 use mathlib.Core.Path.{◌≡◌, refl, ap, ◌∙◌}
 use mathlib.Core.Bool.{Bool, true, false, ◌&&◌, and-eq-true_iff}
-use mathlib.Core.List.{List}
 use Prim.Native.Nat.{ℕ, ◌-◌, ◌≤◌, ◌<◌}
 use native.Mathlib.Omega.{arith}
 use lib.Dec.{leb, eqb}
@@ -19,7 +18,7 @@ use Rattle.plan.specs.Ceiling.{local_ceiling, global_ceiling, ceiling}
 use Rattle.plan.specs.Facts.{Accepted}
 use Rattle.state.specs.declared.Task.{Task}
 use Rattle.state.specs.declared.State.{State}
-use Rattle.state.specs.State.{task_at, held_at, last_held, in_section}
+use Rattle.state.specs.State.{task_at, last_held, in_section}
 use Rattle.legal.specs.Facts.{Legal, HeldLegal}
 use Rattle.choice.specs.Choice.{holds_at_ceiling, system_ceiling}
 use Rattle.choice.specs.Lent.{Lent}

@@ -1,21 +1,18 @@
 -- Of a legal state, the task that the code takes in a subsystem is the one taken.
 use mathlib.Core.Path.{◌≡◌, refl, sym, ap, ◌∙◌}
 use mathlib.Core.Bool.{Bool, true, false, not, ◌&&◌, ◌||◌, and_assoc}
-use mathlib.Core.List.{List}
 use Prim.Native.Nat.{ℕ, ◌<◌}
 use native.Mathlib.Omega.{arith}
 use lib.Dec.{ltb, eqb}
-use lib.ListN.{get_or}
 use borrow.Author.Tests.{lt-ltb}
-use Rattle.below.specs.Below.{all, any, first}
+use Rattle.below.specs.Below.{all, first}
 use Rattle.below.proofs.Search.{all_agree, first_agree}
 use Rattle.plan.specs.declared.CeiledPlan.{CeiledPlan}
 use Rattle.plan.specs.Limits.{no_row}
 use Rattle.plan.specs.Plan.{owner, is_global, taken_before, foremost}
-use Rattle.plan.specs.Ceiling.{local_ceiling, ceiling}
-use Rattle.plan.specs.Facts.{Accepted}
+use Rattle.plan.specs.Ceiling.{local_ceiling}
 use Rattle.state.specs.declared.State.{State}
-use Rattle.state.specs.State.{task_at, is_ready, is_waiting, is_started, is_active, held_at, last_held, in_section}
+use Rattle.state.specs.State.{task_at, is_ready, is_active, held_at}
 use Rattle.choice.specs.Lent.{Lent}
 use Rattle.choice.specs.Choice.{or_no_row, below_locals, kept_from_ready, may_be_taken, taken}
 use Rattle.choice.specs.Columns.{local_at, below_held, below_held_in, unbarred, taken_below}

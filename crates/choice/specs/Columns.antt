@@ -1,6 +1,6 @@
 -- What the parts of a choice compute, of a plan with ceilings and a state. A place that is not there reads as the definitions read it.
 use Rattle.std.specs.Prelude.{◌≡◌, Bool, not, ◌&&◌, ◌||◌, cond, ℕ, ◌<◌, ltb, eqb, get_or}
-use Rattle.below.specs.Below.{all, any, first}
+use Rattle.below.specs.Below.{all, first}
 use Rattle.below.specs.Least.{least}
 use Rattle.plan.specs.declared.Plan.{Plan}
 use Rattle.plan.specs.declared.CeiledPlan.{CeiledPlan}

@@ -1,5 +1,5 @@
 -- Laws of the rows behind a name: the last row is the rest of the line, whatever tabs it has.
-use Rattle.std.proofs.Common.{◌≡◌, ℕ, suc, List, [], ◌∷◌, Bool, true, false, length, take, drop, refl, sym, ◌∙◌}
+use Rattle.std.proofs.Common.{◌≡◌, ℕ, suc, List, [], ◌∷◌, Bool, true, false, length, take, drop, refl, ◌∙◌}
 use Rattle.std.specs.Prelude.{Option, Some, None, ltb, eqb}
 use Rattle.std.specs.Option.{option_map, option_and_then}
 use borrow.Author.Tests.{ltb-true, ltb-false}

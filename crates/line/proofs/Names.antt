@@ -1,5 +1,5 @@
 -- Laws of an event line's name: its kind, and that the kind says as much as the name.
-use Rattle.std.proofs.Common.{◌≡◌, ℕ, ◌≤◌, ◌<◌, List, [], ◌∷◌, Bool, true, false, ◌||◌, refl, ◌∙◌, arith}
+use Rattle.std.proofs.Common.{◌≡◌, ℕ, ◌≤◌, List, [], ◌∷◌, Bool, true, false, ◌||◌, refl, ◌∙◌, arith}
 use Rattle.std.specs.Prelude.{Option, Some, None, eqb}
 use Rattle.std.specs.Option.{option_and_then}
 use mathlib.Core.Logic.{◌⊎◌, ⊎_elim}

@@ -1,12 +1,6 @@
 -- Laws of a part as it is lent, and of the place that a search finds.
-use mathlib.Core.Path.{◌≡◌, sym, ◌∙◌}
-use mathlib.Core.List.{List}
-use Prim.Native.Nat.{ℕ, suc, ◌+◌, ◌-◌, ◌≤◌}
+use Rattle.std.proofs.Common.{◌≡◌, ℕ, suc, ◌+◌, ◌-◌, ◌≤◌, List, length, take, drop, length-drop, take_all, length-take-le, add-one, sym, ◌∙◌, arith}
 use native.Mathlib.Nat.{zero-add}
-use native.Mathlib.Numerals.{add-one}
-use native.Mathlib.Omega.{arith}
-use lib.ListN.{length, take, drop, length-drop}
-use lib.Seq.{take_all, length-take-le}
 use Rattle.text.specs.Lines.{until}
 use Rattle.text.proofs.Parted.{Parted, Whole, parted, whole}
 use Rattle.text.proofs.Until.{until_le}

@@ -1,6 +1,5 @@
 -- A line of the admission report is the text of the row's numbers.
-use mathlib.Core.Path.{◌≡◌, refl}
-use Prim.Native.Nat.{ℕ}
+use Rattle.std.proofs.Common.{◌≡◌, ℕ, refl}
 use Rattle.plan.specs.declared.Plan.{Plan}
 use Rattle.plan.specs.Plan.{period, budget}
 use Rattle.plan.specs.Admission.{blocking, demand, margin}

@@ -46,8 +46,8 @@ joined_short n true h = rw length-append (omega (arith, digits_task n h))
 joined_short n false h = omega (arith, digits_task n h)
 
 -- none stands yet, and all are to come
-pub rows_first : (set : ℕ) (s : List ℕ) → Rows set 32 false s s
-rows_first set s = record { text = []; stands = refl; rest = refl; short = omega arith; comma = comma_none }
+pub rows_first : (set k : ℕ) (s : List ℕ) → k ≡ 32 → Rows set k false s s
+rows_first set k s e = rw e (record { text = []; stands = refl; rest = refl; short = omega arith; comma = comma_none })
 
 module _ {set k : ℕ} {others : Bool} {s t : List ℕ} (w : Rows set k others s t) where
   -- there is room for a row and a comma

@@ -1,5 +1,5 @@
 -- Laws of comparing two texts byte by byte.
-use Rattle.std.proofs.Common.{◌≡◌, List, [], ◌∷◌, ℕ, suc, true, false, ◌&&◌, length, refl, ap}
+use Rattle.std.proofs.Common.{◌≡◌, List, [], ◌∷◌, ℕ, suc, false, ◌&&◌, length, refl, ap}
 use mathlib.Core.Bool.{and-false}
 use lib.Pointwise.{pointwise}
 use Rattle.std.specs.Prelude.{eqb}

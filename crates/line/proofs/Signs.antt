@@ -1,5 +1,5 @@
 -- Laws of a signed number's text: a dash in front of a negative number's size.
-use Rattle.std.proofs.Common.{◌≡◌, ℕ, suc, ◌+◌, ◌≤◌, ◌<◌, ◌∷◌, true, false, length, refl, ap, ◌∙◌, arith, to_z-of_z, w64, SFits, of_z, to_z}
+use Rattle.std.proofs.Common.{◌≡◌, ℕ, suc, ◌≤◌, ◌∷◌, true, false, length, refl, ap, ◌∙◌, arith, to_z-of_z, w64, SFits, of_z, to_z}
 use Rattle.std.specs.Prelude.{ℤ, pos, negsuc, nat_abs}
 use lib.Signed.{lt_z}
 use borrow.Author.Tests.{ltb-true}

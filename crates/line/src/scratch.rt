@@ -84,10 +84,9 @@ impl Scratch {
         ensures room { length self.new ≤ 3 + length self.old }
     {
         if row == 255 {
-            self.byte(b'-');
-        } else {
-            self.decimal(row as u64);
+            return self.byte(b'-');
         }
+        self.decimal(row as u64);
     }
 
     // A signed number in front: its size, and a dash in front of a negative number's.
@@ -136,10 +135,9 @@ impl Scratch {
         ensures room { length self.new ≤ 85 + length self.old }
     {
         if set == 0 {
-            self.byte(b'-');
-        } else {
-            self.rows(set);
+            return self.byte(b'-');
         }
+        self.rows(set);
     }
 
     // A row and the space behind it.

@@ -1,6 +1,5 @@
 -- `line::events::event_of` meets its contract: a long line is no event, and the first line feed ends the others.
-use mathlib.Core.Path.{sym, ◌∙◌}
-use native.Mathlib.Omega.{arith}
+use Rattle.std.proofs.Common.{sym, ◌∙◌, arith}
 use Rattle.text.specs.Lines.{line_feed}
 use Rattle.line.proofs.Parts.{found_le, found_length}
 use Rattle.line.proofs.Whole.{event_line, no_line}

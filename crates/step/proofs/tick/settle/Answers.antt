@@ -1,4 +1,4 @@
-use Rattle.std.proofs.Common.{sym, ◌∙◌, arith}
+use Rattle.std.proofs.Common.{sym, ◌∙◌}
 use Rattle.step.proofs.Settling.{begun, again, turns_over, none_spent, settled}
 use Rattle.step.proofs.tick.settle.Goals as goal
 

@@ -3,5 +3,5 @@ use Rattle.std.proofs.Common.{length, length-append, ap, arith}
 use Rattle.line.proofs.Short.{rows_length}
 use Rattle.line.proofs.scratch.Scratch.ended.Goals as goal
 
-pub returns-else-set-eq0-clause-room : goal.returns-else-set-eq0-clause-room
-returns-else-set-eq0-clause-room c = omega (arith, simp length-append at (ap length c.rows.ensures), rows_length c.args.set)
+pub returns-clause-room : goal.returns-clause-room
+returns-clause-room c = omega (arith, simp length-append at (ap length c.rows.ensures), rows_length c.args.set)

@@ -3,7 +3,7 @@ use Rattle.line.proofs.Rows.{rows_first, row_room, row_in, row_out, rows_last}
 use Rattle.line.proofs.scratch.Scratch.rows.Goals as goal
 
 pub loop-row-init : goal.loop-row-init
-loop-row-init c = rows_first _ _
+loop-row-init c = rows_first _ _ _ (omega arith)
 
 pub joined-requires : goal.joined-requires
 joined-requires c = (row_room c.loop-row.invariant (omega arith) c.requires, omega arith)

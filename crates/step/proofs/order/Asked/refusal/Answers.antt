@@ -1,5 +1,5 @@
 -- The search over the row finds the first that applies.
-use Rattle.std.proofs.Common.{rules, refl, ap, ◌∙◌, ◌≡◌}
+use Rattle.std.proofs.Common.{rules, ap, ◌∙◌}
 use borrow.Author.Tests.{tests}
 use Rattle.std.proofs.lemmas.Iterator.{YieldsList-from_slice}
 use Rattle.std.proofs.lemmas.Iterator.Consumers.{YieldsList-from_copied}
