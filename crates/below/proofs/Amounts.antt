@@ -1,10 +1,6 @@
 -- Laws of sum and greatest: how a counting loop starts and goes on, bounds, and that only the numbers below n count.
-use mathlib.Core.Path.{◌≡◌, refl, ap}
-use mathlib.Core.Logic.{◌≢◌, ◌⊎◌, inl, inr, ⊎_elim}
-use Prim.Native.Nat.{ℕ, zero, suc, ◌+◌, ◌*◌, max, ◌≤◌, ◌<◌}
-use native.Mathlib.Nat.{not-suc-le-zero, le_step, lt-suc_self}
-use native.Mathlib.Numerals.{add-one}
-use native.Mathlib.Omega.{arith}
+use Rattle.std.proofs.Common.{◌≡◌, refl, ap, ◌≢◌, ◌⊎◌, inl, inr, ⊎_elim, ℕ, zero, suc, ◌+◌, ◌*◌, max, ◌≤◌, ◌<◌, not-suc-le-zero, lt-suc_self, add-one, arith}
+use native.Mathlib.Nat.{le_step}
 use Rattle.below.specs.Below.{sum, greatest}
 use Rattle.below.proofs.Search.{last_or_before}
 

@@ -1,9 +1,5 @@
 -- An entry of a list that is there is the same whatever is read past the end.
-use mathlib.Core.Path.{◌≡◌, refl}
-use mathlib.Core.List.{List, [], ◌∷◌}
-use Prim.Native.Nat.{ℕ, zero, suc, ◌<◌}
-use native.Mathlib.Nat.{not-suc-le-zero, le_of_suc-le-suc}
-use lib.ListN.{length, get_or}
+use Rattle.std.proofs.Common.{◌≡◌, refl, List, [], ◌∷◌, ℕ, zero, suc, ◌<◌, not-suc-le-zero, le_of_suc-le-suc, length, get_or}
 
 module _ {A : Type 0} where
   pub get_or_within : (l : List A) (i : ℕ) (a b : A) → i < length l → get_or l i a ≡ get_or l i b

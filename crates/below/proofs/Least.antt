@@ -1,12 +1,6 @@
 -- Laws of least: how a loop that keeps the smallest value so far, and the first number with it, starts and goes on. Laws of a search below a bound.
-use mathlib.Core.Path.{◌≡◌, refl, sym, ◌∙◌}
-use mathlib.Core.Logic.{⊎_elim}
-use mathlib.Core.Bool.{Bool, true, false, ◌&&◌, and-false, and_assoc}
-use Prim.Native.Nat.{ℕ, ◌+◌, ◌≤◌, ◌<◌}
-use native.Mathlib.Nat.{eq-or-lt_of_le, lt_of_lt_of_le}
-use native.Mathlib.Omega.{arith}
-use lib.Dec.{ltb, eqb}
-use borrow.Author.Tests.{lt-ltb, ltb-true, eq-eqb, ne_eqb}
+use Rattle.std.proofs.Common.{◌≡◌, refl, sym, ◌∙◌, ⊎_elim, Bool, true, false, ◌&&◌, ℕ, ◌+◌, ◌≤◌, ◌<◌, eq-or-lt_of_le, lt_of_lt_of_le, arith, ltb, eqb, lt-ltb, ltb-true, eq-eqb, ne_eqb}
+use mathlib.Core.Bool.{and-false, and_assoc}
 use Rattle.below.specs.Below.{all, any, first}
 use Rattle.below.specs.Least.{least}
 use Rattle.below.proofs.Search.{all_next, any_none, any_next, any_true, any_of, any_false, first_le, first_passes, first_before, first_most, first_absent, first_is, first_kept}

@@ -1,13 +1,8 @@
 -- Laws of the list of the values at the numbers below n: its length and entries, how it grows, and how a loop that fills a table makes it.
-use mathlib.Core.Path.{◌≡◌, refl, sym, ap, ◌∙◌}
-use mathlib.Core.Logic.{⊎_elim}
-use mathlib.Core.List.{List, [], ◌∷◌, ◌++◌, append_assoc}
-use Prim.Native.Nat.{ℕ, zero, suc, ◌+◌, ◌≤◌, ◌<◌}
-use native.Mathlib.Nat.{lt-suc_self, le_step, ne_of_lt, lt_of_lt_of_le}
-use native.Mathlib.Numerals.{add-one}
-use native.Mathlib.Omega.{arith}
-use lib.ListN.{length, get_or, set, length-set, length-append, get_or-append}
-use lib.Seq.{ext_get_or, get_or_at, get_or-set_same, get_or-set_other}
+use Rattle.std.proofs.Common.{◌≡◌, refl, sym, ap, ◌∙◌, ⊎_elim, List, [], ◌∷◌, ◌++◌, append_assoc, ℕ, zero, suc, ◌+◌, ◌≤◌, ◌<◌, lt-suc_self, ne_of_lt, lt_of_lt_of_le, add-one, arith, length, get_or, set, length-set, length-append, ext_get_or, get_or-set_same, get_or-set_other}
+use native.Mathlib.Nat.{le_step}
+use lib.ListN.{get_or-append}
+use lib.Seq.{get_or_at}
 use Rattle.below.specs.Listed.{listed, listed_onto}
 use Rattle.below.proofs.Search.{last_or_before}
 

@@ -1,9 +1,5 @@
 -- How a search that counts i up to n ends: it leaves at i, or it has passed every number below n.
-use mathlib.Core.Path.{◌≡◌, sym, ◌∙◌}
-use mathlib.Core.Bool.{Bool, true, false}
-use Prim.Native.Nat.{ℕ, ◌≤◌, ◌<◌}
-use native.Mathlib.Nat.{lt_of_lt_of_le}
-use native.Mathlib.Omega.{arith}
+use Rattle.std.proofs.Common.{◌≡◌, sym, ◌∙◌, Bool, true, false, ℕ, ◌≤◌, ◌<◌, lt_of_lt_of_le, arith}
 use Rattle.below.specs.Below.{all, any, first}
 use Rattle.below.proofs.Search.{all_of, all_not, any_of, any_absent, first_is, first_absent}
 

@@ -1,11 +1,6 @@
 -- Laws of the quotient rounded up.
-use mathlib.Core.Path.{◌≡◌, refl, ap, ◌∙◌}
-use mathlib.Core.Bool.{Bool, true, false}
-use Prim.Native.Nat.{ℕ, ◌+◌, ◌-◌, ◌/◌, ◌≤◌, ◌<◌}
-use native.Mathlib.Nat.{le_trans, div-eq_of_lt, div-eq-sub-div, le-div_iff_mul-le, div-mul-le_self}
-use native.Mathlib.Omega.{arith}
-use lib.Dec.{leb}
-use borrow.Author.Tests.{leb-true, leb-false}
+use Rattle.std.proofs.Common.{◌≡◌, refl, ap, ◌∙◌, Bool, true, false, ℕ, ◌+◌, ◌-◌, ◌/◌, ◌≤◌, ◌<◌, le_trans, le-div_iff_mul-le, div-mul-le_self, arith, leb, leb-true, leb-false}
+use native.Mathlib.Nat.{div-eq_of_lt, div-eq-sub-div}
 use Rattle.below.specs.Quotient.{rounded_up}
 
 pub rounded_up_zero : (p : ℕ) → 0 < p → rounded_up 0 p ≡ 0

@@ -1,13 +1,7 @@
 -- Laws of all, any and first: how a counting loop starts and goes on, what the answer says of each number below n, and that only the numbers below n count.
-use mathlib.Core.Path.{◌≡◌, refl, sym, ap, ap₂, ◌∙◌}
-use mathlib.Core.Logic.{◌⊎◌, inl, inr, ⊎_elim}
-use mathlib.Core.Bool.{Bool, true, false, ◌&&◌, ◌||◌, true≢false, false≢true, and-eq-true_iff, or-true}
-use Prim.Native.Nat.{ℕ, zero, suc, ◌+◌, ◌≤◌, ◌<◌}
-use native.Mathlib.Nat.{le_of_suc-le-suc, eq-or-lt_of_le, not-suc-le-zero, le_step, lt-suc_self, lt_trans}
-use native.Mathlib.Numerals.{add-one}
-use native.Mathlib.Omega.{arith}
-use lib.Dec.{ltb}
-use borrow.Author.Tests.{ltb-true, ltb-false}
+use Rattle.std.proofs.Common.{◌≡◌, refl, sym, ap, ap₂, ◌∙◌, ◌⊎◌, inl, inr, ⊎_elim, Bool, true, false, ◌&&◌, ◌||◌, true≢false, ℕ, zero, suc, ◌+◌, ◌≤◌, ◌<◌, le_of_suc-le-suc, eq-or-lt_of_le, not-suc-le-zero, lt-suc_self, lt_trans, add-one, arith, ltb, ltb-true, ltb-false}
+use mathlib.Core.Bool.{false≢true, and-eq-true_iff, or-true}
+use native.Mathlib.Nat.{le_step}
 use Rattle.below.specs.Below.{all, any, first}
 use Rattle.below.proofs.Tests.{and_left, and_right, and_of, same_truth}
 

@@ -1,7 +1,6 @@
 -- Tests that are joined, negated or told apart: what the answer says, and back.
-use mathlib.Core.Path.{◌≡◌, refl, sym, ◌∙◌}
-use mathlib.Core.Logic.{◌⊎◌, inl, inr}
-use mathlib.Core.Bool.{Bool, true, false, not, ◌&&◌, ◌||◌, true≢false, false≢true}
+use Rattle.std.proofs.Common.{◌≡◌, refl, sym, ◌∙◌, ◌⊎◌, inl, inr, Bool, true, false, not, ◌&&◌, ◌||◌, true≢false}
+use mathlib.Core.Bool.{false≢true}
 
 -- a test passes or fails
 pub decided : (a : Bool) → (a ≡ true) ⊎ (a ≡ false)

@@ -15,7 +15,6 @@ use Rattle.plan.specs.declared.Plan.{Plan}
 use Rattle.reader.specs.declared.Verdict.{Verdict}
 use Rattle.reader.specs.declared.Verdict.TheVariants.{Accepted}
 use Rattle.reader.specs.declared.Line.{Line}
-use Rattle.reader.specs.declared.Line.TheVariants.{Malformed}
 use Rattle.reader.specs.declared.Reading.{Reading}
 use Rattle.reader.specs.Numbers.{number, beside, is_accepted}
 use Rattle.reader.specs.Line.{line_of, kind_of}
@@ -24,6 +23,7 @@ use Rattle.exactly.specs.Listed.{line_at, Condition, LineMeets, plan_after}
 use Rattle.exactly.proofs.ListedTied.{Tied}
 use Rattle.exactly.proofs.ListedPairs.{tied_line}
 use Rattle.exactly.proofs.ListedTests.{Decides, decides_grammar, decides_order, decides_rows_left, decides_rows_there, decides_range, decides_once, decides_one_subsystem, decides_budget}
+use Rattle.std.proofs.Common.{Option, Some, None}
 
 -- a verdict on line n that tells the first of some conditions that is broken, if one is
 pub data Judgement (C : ℕ → Type 0) (n : ℕ) : Verdict → Type 0 where
@@ -49,7 +49,7 @@ first_broken C n c (t ∷ ts) w met = go t.0 (w.0 met) (first_broken C n (suc c)
         here j q = rw q (d.met refl)
 
 -- eight conditions are all
-beyond : (above : List Line) (l : Line) → ((d : ℕ) → d < 8 → Condition d above l) → (d : ℕ) → Condition d above l
+beyond : (above : List (Option Line)) (l : Option Line) → ((d : ℕ) → d < 8 → Condition d above l) → (d : ℕ) → Condition d above l
 beyond above l f zero = f 0 (omega arith)
 beyond above l f (suc zero) = f 1 (omega arith)
 beyond above l f (suc (suc zero)) = f 2 (omega arith)
@@ -61,7 +61,7 @@ beyond above l f (suc (suc (suc (suc (suc (suc (suc zero))))))) = f 7 (omega ari
 beyond above l f (suc (suc (suc (suc (suc (suc (suc (suc c)))))))) = tt
 
 -- what is said of a line tells the first condition that it breaks
-judge : (above : List Line) (last : ℕ) (p : Plan) → Tied above last p → (n : ℕ) (l : Line) → Judgement (λ c. Condition c above l) n (judged p last n l)
+judge : (above : List (Option Line)) (last : ℕ) (p : Plan) → Tied above last p → (n : ℕ) (l : Option Line) → Judgement (λ c. Condition c above l) n (judged p last n l)
 unfolding judged
 judge above last p w n l =
     first_broken (λ c. Condition c above l) n 0 _ (
@@ -108,13 +108,13 @@ judge above last p w n l =
     (λ d h. absurd (not-suc-le-zero h))
 
 -- the plan after one line more
-pub plan_after_line : (p : Plan) (ls : List Line) (l : Line) → plan_after p (ls ++ (l ∷ [])) ≡ with_line (plan_after p ls) l
+pub plan_after_line : (p : Plan) (ls : List (Option Line)) (l : Option Line) → plan_after p (ls ++ (l ∷ [])) ≡ with_line (plan_after p ls) l
 unfolding plan_after
 plan_after_line p [] l = refl
 plan_after_line p (x ∷ ls) l = plan_after_line (with_line p x) ls l
 
 -- what reading on comes to: the plan of all lines, which meet their conditions, or the first line that breaks one
-pub data Outcome (all : List Line) : Reading → Type 0 where
+pub data Outcome (all : List (Option Line)) : Reading → Type 0 where
   whole : ((i : ℕ) → i < length all → LineMeets all i) → (last : ℕ) → Tied all last (plan_after empty_plan all)
       → Outcome all (record { verdict = Accepted; plan = plan_after empty_plan all })
   stopped : (v : Verdict) (i c : ℕ) → i < length all → ((j : ℕ) → j < i → LineMeets all j)
@@ -122,21 +122,21 @@ pub data Outcome (all : List Line) : Reading → Type 0 where
       → (Condition c (take i all) (line_at all i) → ⊥)
       → number v ≡ 21 + c → beside v ≡ i + 1 → Outcome all (refused v)
 
-module _ (all : List Line) where
+module _ (all : List (Option Line)) where
   -- the line that comes next
-  next_there : (i : ℕ) (l : Line) (ls : List Line) → drop i all ≡ l ∷ ls → i < length all
+  next_there : (i : ℕ) (l : Option Line) (ls : List (Option Line)) → drop i all ≡ l ∷ ls → i < length all
   next_there i l ls e = omega (arith, sym (ap length e) ∙ length-drop i all)
 
-  next_line : (i : ℕ) (l : Line) (ls : List Line) → drop i all ≡ l ∷ ls → line_at all i ≡ l
+  next_line : (i : ℕ) (l : Option Line) (ls : List (Option Line)) → drop i all ≡ l ∷ ls → line_at all i ≡ l
   unfolding line_at
-  next_line i l ls e = cc (drop-cons all i Malformed (next_there i l ls e))
+  next_line i l ls e = cc (drop-cons all i None (next_there i l ls e))
 
-  next_rest : (i : ℕ) (l : Line) (ls : List Line) → drop i all ≡ l ∷ ls → drop (suc i) all ≡ ls
-  next_rest i l ls e = cc (drop-cons all i Malformed (next_there i l ls e))
+  next_rest : (i : ℕ) (l : Option Line) (ls : List (Option Line)) → drop i all ≡ l ∷ ls → drop (suc i) all ≡ ls
+  next_rest i l ls e = cc (drop-cons all i None (next_there i l ls e))
 
-  next_above : (i : ℕ) (l : Line) (ls : List Line) → drop i all ≡ l ∷ ls → take (suc i) all ≡ take i all ++ (l ∷ [])
+  next_above : (i : ℕ) (l : Option Line) (ls : List (Option Line)) → drop i all ≡ l ∷ ls → take (suc i) all ≡ take i all ++ (l ∷ [])
   unfolding line_at
-  next_above i l ls e = rw (← next_line i l ls e) (take-suc all i Malformed (next_there i l ls e))
+  next_above i l ls e = rw (← next_line i l ls e) (take-suc all i None (next_there i l ls e))
 
   -- the lines read so far, all of which meet their conditions, and the plan read from them
   pub record SoFar (i last : ℕ) (p : Plan) : Type 0 where
@@ -144,7 +144,7 @@ module _ (all : List Line) where
     pub meets : (j : ℕ) → j < i → LineMeets all j
     pub plan_is : p ≡ plan_after empty_plan (take i all)
 
-  so_far_next : (i last : ℕ) (p : Plan) (l : Line) (ls : List Line) → drop i all ≡ l ∷ ls → SoFar i last p → ((c : ℕ) → Condition c (take i all) l)
+  so_far_next : (i last : ℕ) (p : Plan) (l : Option Line) (ls : List (Option Line)) → drop i all ≡ l ∷ ls → SoFar i last p → ((c : ℕ) → Condition c (take i all) l)
       → SoFar (suc i) (kind_of l) (with_line p l)
   so_far_next i last p l ls e w m = record {
     tied = rw (next_above i l ls e) (tied_line (take i all) last p l w.tied m);
@@ -166,7 +166,7 @@ module _ (all : List Line) where
       same = take_all i all done
 
   -- at one more line, by what is said of it
-  outcome_line : (i last : ℕ) (p : Plan) (l : Line) (ls : List Line) → drop i all ≡ l ∷ ls → SoFar i last p → (v : Verdict) → Judgement (λ c. Condition c (take i all) l) (i + 1) v
+  outcome_line : (i last : ℕ) (p : Plan) (l : Option Line) (ls : List (Option Line)) → drop i all ≡ l ∷ ls → SoFar i last p → (v : Verdict) → Judgement (λ c. Condition c (take i all) l) (i + 1) v
       → (r : Reading) → (SoFar (suc i) (kind_of l) (with_line p l) → Outcome all r) → Outcome all (elim (is_accepted v) [ true ↦ r | false ↦ refused v ])
   unfolding is_accepted
   outcome_line i last p l ls e w v j r f = go j

@@ -11,15 +11,16 @@ use Rattle.below.proofs.Search.{last_or_before}
 use Rattle.plan.specs.declared.Plan.{Plan}
 use Rattle.plan.specs.Plan.{length_of, declares}
 use Rattle.reader.specs.declared.Line.{Line}
-use Rattle.reader.specs.declared.Line.TheVariants.{Subsystem, Task, Resource, Uses, Malformed}
+use Rattle.reader.specs.declared.Line.TheVariants.{Subsystem, Task, Resource, Uses}
 use Rattle.reader.specs.Line.{kind_of}
 use Rattle.reader.specs.Reading.{empty_plan, with_subsystem, with_task, with_resource, with_use, with_line}
 use Rattle.exactly.specs.Listed.{count_of, InOrder, Condition}
 use Rattle.exactly.proofs.PlanShape.{same_or_apart, declares_not, declares_short, declares_same, resource_own, resource_else, use_own, use_else}
 use Rattle.exactly.proofs.ListedRows.{no_resource_yet, line_at_old, line_at_new}
 use Rattle.exactly.proofs.ListedTied.{use_short, Tables, UsedAt, Stands, Pairs, Tied, latest_empty, latest_line, tables_empty, tables_subsystem, tables_task, tables_resource, tables_use}
+use Rattle.std.proofs.Common.{Option, Some, None}
 
-module _ (above : List Line) (l : Line) (t r : ℕ) where
+module _ (above : List (Option Line)) (l : Option Line) (t r : ℕ) where
   long : length (above ++ (l ∷ [])) ≡ length above + 1
   long = length-append above (l ∷ [])
 
@@ -33,17 +34,17 @@ module _ (above : List Line) (l : Line) (t r : ℕ) where
   }
 
   -- and so is the line itself
-  used_here : (m : ℕ) → l ≡ Uses t r m → UsedAt (above ++ (l ∷ [])) t r
+  used_here : (m : ℕ) → l ≡ Some (Uses t r m) → UsedAt (above ++ (l ∷ [])) t r
   used_here m e = record { at = length above; there = omega (arith, long); size = m; line = line_at_new above l ∙ e }
 
   -- and there is no other
-  used_split : UsedAt (above ++ (l ∷ [])) t r → UsedAt above t r ⊎ ((m : ℕ) × (l ≡ Uses t r m))
+  used_split : UsedAt (above ++ (l ∷ [])) t r → UsedAt above t r ⊎ ((m : ℕ) × (l ≡ Some (Uses t r m)))
   used_split u = ⊎_elim here before (last_or_before (omega (arith, long, u.there)))
     where
-      here : u.at ≡ length above → UsedAt above t r ⊎ ((m : ℕ) × (l ≡ Uses t r m))
+      here : u.at ≡ length above → UsedAt above t r ⊎ ((m : ℕ) × (l ≡ Some (Uses t r m)))
       here q = inr (u.size, sym (line_at_new above l) ∙ rw q at u.line)
 
-      before : u.at < length above → UsedAt above t r ⊎ ((m : ℕ) × (l ≡ Uses t r m))
+      before : u.at < length above → UsedAt above t r ⊎ ((m : ℕ) × (l ≡ Some (Uses t r m)))
       before v = inl (record { at = u.at; there = v; size = u.size; line = sym (line_at_old above l u.at v) ∙ u.line })
 
   used_other : (kind_of l ≡ 3 → ⊥) → UsedAt (above ++ (l ∷ [])) t r → UsedAt above t r
@@ -57,42 +58,42 @@ pairs_empty = record {
   used = λ t r s. absurd (not-suc-le-zero s.task_there);
 }
 
-module _ (above : List Line) (p : Plan) (w : Tables above p) (h : Pairs above p) where
-  pairs_subsystem : (a b : ℕ) → Pairs (above ++ (Subsystem a b ∷ [])) (with_line p (Subsystem a b))
+module _ (above : List (Option Line)) (p : Plan) (w : Tables above p) (h : Pairs above p) where
+  pairs_subsystem : (a b : ℕ) → Pairs (above ++ (Some (Subsystem a b) ∷ [])) (with_line p (Some (Subsystem a b)))
   unfolding with_line with_subsystem kind_of declares length_of
   pairs_subsystem a b = record { uses = uses; used = used }
     where
-      uses : (t r : ℕ) → UsedAt (above ++ (Subsystem a b ∷ [])) t r → Stands (with_line p (Subsystem a b)) t r
+      uses : (t r : ℕ) → UsedAt (above ++ (Some (Subsystem a b) ∷ [])) t r → Stands (with_line p (Some (Subsystem a b))) t r
       uses t r u =
-          let s = h.uses t r (used_other above (Subsystem a b) t r (omega arith) u) in
+          let s = h.uses t r (used_other above (Some (Subsystem a b)) t r (omega arith) u) in
           record { task_there = s.task_there; resource_there = s.resource_there; declared = s.declared }
 
-      used : (t r : ℕ) → Stands (with_line p (Subsystem a b)) t r → UsedAt (above ++ (Subsystem a b ∷ [])) t r
+      used : (t r : ℕ) → Stands (with_line p (Some (Subsystem a b))) t r → UsedAt (above ++ (Some (Subsystem a b) ∷ [])) t r
       used t r s =
-          used_more above (Subsystem a b) t r
+          used_more above (Some (Subsystem a b)) t r
           (h.used t r (record { task_there = s.task_there; resource_there = s.resource_there; declared = s.declared }))
 
   -- no resource is there yet
-  pairs_task : (s : ℕ) → InOrder above (Task s) → Pairs (above ++ (Task s ∷ [])) (with_line p (Task s))
+  pairs_task : (s : ℕ) → InOrder above (Some (Task s)) → Pairs (above ++ (Some (Task s) ∷ [])) (with_line p (Some (Task s)))
   unfolding with_line with_task kind_of declares length_of
   pairs_task s o = record { uses = uses; used = λ t r v. absurd (omega (arith, v.resource_there, w.resources_are, no_resource_yet above s o)) }
     where
-      uses : (t r : ℕ) → UsedAt (above ++ (Task s ∷ [])) t r → Stands (with_line p (Task s)) t r
+      uses : (t r : ℕ) → UsedAt (above ++ (Some (Task s) ∷ [])) t r → Stands (with_line p (Some (Task s))) t r
       uses t r u =
-          let v = h.uses t r (used_other above (Task s) t r (omega arith) u) in
+          let v = h.uses t r (used_other above (Some (Task s)) t r (omega arith) u) in
           record { task_there = omega (arith, v.task_there); resource_there = v.resource_there; declared = v.declared }
 
   -- no pair is there yet, and none is declared for the new resource
-  pairs_resource : (k : ℕ) → InOrder above (Resource k) → count_of 2 above < 16 → Pairs (above ++ (Resource k ∷ [])) (with_line p (Resource k))
+  pairs_resource : (k : ℕ) → InOrder above (Some (Resource k)) → count_of 2 above < 16 → Pairs (above ++ (Some (Resource k) ∷ [])) (with_line p (Some (Resource k)))
   unfolding with_line with_resource kind_of declares
   pairs_resource k o few = record { uses = uses; used = used }
     where
       room : p.resources < 16
       room = omega (arith, w.resources_are)
 
-      uses : (t r : ℕ) → UsedAt (above ++ (Resource k ∷ [])) t r → Stands (with_line p (Resource k)) t r
+      uses : (t r : ℕ) → UsedAt (above ++ (Some (Resource k) ∷ [])) t r → Stands (with_line p (Some (Resource k))) t r
       uses t r u =
-          let v = used_other above (Resource k) t r (omega arith) u in
+          let v = used_other above (Some (Resource k)) t r (omega arith) u in
           absurd (omega (arith, o v.at v.there, ap kind_of v.line))
 
       own : (t r : ℕ) → t < p.tasks → r ≡ p.resources → declares (with_resource p k) t r ≡ false
@@ -106,21 +107,21 @@ module _ (above : List Line) (p : Plan) (w : Tables above p) (h : Pairs above p)
             declared = sym (declares_same (with_resource p k) p t r (resource_else p k t r room (omega arith) (λ _ q. omega arith))) ∙ d;
           })
 
-      used : (t r : ℕ) → Stands (with_line p (Resource k)) t r → UsedAt (above ++ (Resource k ∷ [])) t r
+      used : (t r : ℕ) → Stands (with_line p (Some (Resource k))) t r → UsedAt (above ++ (Some (Resource k) ∷ [])) t r
       used t r s =
-          used_more above (Resource k) t r
+          used_more above (Some (Resource k)) t r
           (⊎_elim
           (λ q. absurd (true≢false (sym s.declared ∙ own t r s.task_there q)))
           (λ b. old t r s.task_there b s.declared)
           (last_or_before (omega (arith, s.resource_there))))
 
   -- the new pair is declared, and the others are as they were
-  pairs_use : (t r m : ℕ) → t < p.tasks → r < p.resources → m < 65535 → Pairs (above ++ (Uses t r m ∷ [])) (with_line p (Uses t r m))
+  pairs_use : (t r m : ℕ) → t < p.tasks → r < p.resources → m < 65535 → Pairs (above ++ (Some (Uses t r m) ∷ [])) (with_line p (Some (Uses t r m)))
   unfolding with_line with_use
   pairs_use t r m a b short = record { uses = uses; used = used }
     where
-      l : Line
-      l = Uses t r m
+      l : Option Line
+      l = Some (Uses t r m)
 
       q : Plan
       q = with_use p t r m
@@ -147,7 +148,7 @@ module _ (above : List Line) (p : Plan) (w : Tables above p) (h : Pairs above p)
               declared : (u ≡ t) × (v ≡ r) → declares q u v ≡ true
               declared e = rw (e.0, e.1) own
 
-          new : (k : ℕ) × (l ≡ Uses u v k) → Stands q u v
+          new : (k : ℕ) × (l ≡ Some (Uses u v k)) → Stands q u v
           new e =
               let n = e.1 in
               let tu : t ≡ u = cc in
@@ -170,24 +171,24 @@ module _ (above : List Line) (p : Plan) (w : Tables above p) (h : Pairs above p)
 pub tied_empty : Tied [] 0 empty_plan
 tied_empty = record { latest = latest_empty; tables = tables_empty; pairs = pairs_empty }
 
-pub tied_line : (above : List Line) (last : ℕ) (p : Plan) (l : Line) → Tied above last p → ((c : ℕ) → Condition c above l)
+pub tied_line : (above : List (Option Line)) (last : ℕ) (p : Plan) (l : Option Line) → Tied above last p → ((c : ℕ) → Condition c above l)
     → Tied (above ++ (l ∷ [])) (kind_of l) (with_line p l)
 tied_line above last p l w c = record { latest = latest_line above l (c 1); tables = tables l c; pairs = pairs l c }
   where
-    tables : (l : Line) → ((c : ℕ) → Condition c above l) → Tables (above ++ (l ∷ [])) (with_line p l)
-    tables (Subsystem a b) c = tables_subsystem above p w.tables a b (c 2)
-    tables (Task s) c = tables_task above p w.tables s (c 2)
-    tables (Resource k) c = tables_resource above p w.tables k (c 2)
-    tables (Uses t r m) c = tables_use above p w.tables t r m
-    tables Malformed c = absurd (c 0 refl)
+    tables : (l : Option Line) → ((c : ℕ) → Condition c above l) → Tables (above ++ (l ∷ [])) (with_line p l)
+    tables (Some (Subsystem a b)) c = tables_subsystem above p w.tables a b (c 2)
+    tables (Some (Task s)) c = tables_task above p w.tables s (c 2)
+    tables (Some (Resource k)) c = tables_resource above p w.tables k (c 2)
+    tables (Some (Uses t r m)) c = tables_use above p w.tables t r m
+    tables None c = absurd (c 0 refl)
 
-    pairs : (l : Line) → ((c : ℕ) → Condition c above l) → Pairs (above ++ (l ∷ [])) (with_line p l)
-    pairs (Subsystem a b) c = pairs_subsystem above p w.tables w.pairs a b
-    pairs (Task s) c = pairs_task above p w.tables w.pairs s (c 1)
-    pairs (Resource k) c = pairs_resource above p w.tables w.pairs k (c 1) (c 2)
-    pairs (Uses t r m) c =
+    pairs : (l : Option Line) → ((c : ℕ) → Condition c above l) → Pairs (above ++ (l ∷ [])) (with_line p l)
+    pairs (Some (Subsystem a b)) c = pairs_subsystem above p w.tables w.pairs a b
+    pairs (Some (Task s)) c = pairs_task above p w.tables w.pairs s (c 1)
+    pairs (Some (Resource k)) c = pairs_resource above p w.tables w.pairs k (c 1) (c 2)
+    pairs (Some (Uses t r m)) c =
         pairs_use above p w.tables w.pairs t r m
         (omega (arith, c 3, w.tables.tasks_are))
         (omega (arith, c 3, w.tables.resources_are))
         (use_short above t r m (c 4))
-    pairs Malformed c = absurd (c 0 refl)
+    pairs None c = absurd (c 0 refl)

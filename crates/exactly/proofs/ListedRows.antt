@@ -9,11 +9,12 @@ use lib.ListN.{length, get_or-append}
 use lib.Seq.{get_or-append_seam}
 use borrow.Author.Tests.{eqb-true, eq-eqb, ne_eqb}
 use Rattle.reader.specs.declared.Line.{Line}
-use Rattle.reader.specs.declared.Line.TheVariants.{Task, Malformed}
+use Rattle.reader.specs.declared.Line.TheVariants.{Task}
 use Rattle.reader.specs.Line.{kind_of}
 use Rattle.exactly.specs.Listed.{line_at, count_of, row_of, InOrder}
+use Rattle.std.proofs.Common.{Option, Some, None}
 
-module _ (kind : ℕ) (l : Line) (ls : List Line) where
+module _ (kind : ℕ) (l : Option Line) (ls : List (Option Line)) where
   -- the first line is of the kind
   count_of_hit : eqb (kind_of l) kind ≡ true → count_of kind (l ∷ ls) ≡ suc (count_of kind ls)
   unfolding count_of
@@ -38,19 +39,19 @@ module _ (kind : ℕ) (l : Line) (ls : List Line) where
   row_of_miss e (suc n) = rw (e, row_of)
 
 -- one more line of the kind is one more row
-pub count_of_same : (kind : ℕ) (ls : List Line) (l : Line) → kind_of l ≡ kind → count_of kind (ls ++ (l ∷ [])) ≡ count_of kind ls + 1
+pub count_of_same : (kind : ℕ) (ls : List (Option Line)) (l : Option Line) → kind_of l ≡ kind → count_of kind (ls ++ (l ∷ [])) ≡ count_of kind ls + 1
 unfolding count_of
 count_of_same kind [] l e = rw (eq-eqb (kind_of l) kind e)
 count_of_same kind (x ∷ ls) l e = omega (arith, count_of_same kind ls l e)
 
 -- and one of another kind is none
-pub count_of_other : (kind : ℕ) (ls : List Line) (l : Line) → (kind_of l ≡ kind → ⊥) → count_of kind (ls ++ (l ∷ [])) ≡ count_of kind ls
+pub count_of_other : (kind : ℕ) (ls : List (Option Line)) (l : Option Line) → (kind_of l ≡ kind → ⊥) → count_of kind (ls ++ (l ∷ [])) ≡ count_of kind ls
 unfolding count_of
 count_of_other kind [] l h = rw (ne_eqb (kind_of l) kind h)
 count_of_other kind (x ∷ ls) l h = omega (arith, count_of_other kind ls l h)
 
 -- the new row is the last one
-pub row_of_new : (kind : ℕ) (ls : List Line) (l : Line) → kind_of l ≡ kind → row_of kind (ls ++ (l ∷ [])) (count_of kind ls) ≡ l
+pub row_of_new : (kind : ℕ) (ls : List (Option Line)) (l : Option Line) → kind_of l ≡ kind → row_of kind (ls ++ (l ∷ [])) (count_of kind ls) ≡ l
 unfolding count_of
 row_of_new kind [] l e = row_of_first kind l [] (eq-eqb (kind_of l) kind e)
 row_of_new kind (x ∷ ls) l e = go (eqb (kind_of x) kind) refl (row_of_new kind ls l e)
@@ -61,7 +62,7 @@ row_of_new kind (x ∷ ls) l e = go (eqb (kind_of x) kind) refl (row_of_new kind
     go false q ih = rw (count_of_miss kind x ls q, row_of_miss kind x (ls ++ (l ∷ [])) q (count_of kind ls)) ih
 
 -- every other row is what it was
-pub row_of_kept : (kind : ℕ) (ls : List Line) (l : Line) (n : ℕ) → (kind_of l ≡ kind → n ≡ count_of kind ls → ⊥)
+pub row_of_kept : (kind : ℕ) (ls : List (Option Line)) (l : Option Line) (n : ℕ) → (kind_of l ≡ kind → n ≡ count_of kind ls → ⊥)
     → row_of kind (ls ++ (l ∷ [])) n ≡ row_of kind ls n
 unfolding count_of row_of
 row_of_kept kind [] l n h = go (eqb (kind_of l) kind) refl n h
@@ -84,22 +85,22 @@ row_of_kept kind (x ∷ ls) l n h = go (eqb (kind_of x) kind) refl n h (row_of_k
         (ih n (λ e c. h e (c ∙ sym (count_of_miss kind x ls q))))
 
 -- where no line is of the kind there is no row of it
-count_of_none : (kind : ℕ) (ls : List Line) → ((i : ℕ) → i < length ls → kind_of (line_at ls i) ≡ kind → ⊥) → count_of kind ls ≡ 0
+count_of_none : (kind : ℕ) (ls : List (Option Line)) → ((i : ℕ) → i < length ls → kind_of (line_at ls i) ≡ kind → ⊥) → count_of kind ls ≡ 0
 unfolding count_of line_at
 count_of_none kind [] h = refl
 count_of_none kind (x ∷ ls) h =
     rw (ne_eqb (kind_of x) kind (h 0 (omega arith)), count_of_none kind ls (λ i u. h (suc i) (omega arith)))
 
 -- above a T line that is in order no R line stands
-pub no_resource_yet : (ls : List Line) (s : ℕ) → InOrder ls (Task s) → count_of 2 ls ≡ 0
+pub no_resource_yet : (ls : List (Option Line)) (s : ℕ) → InOrder ls (Some (Task s)) → count_of 2 ls ≡ 0
 unfolding kind_of
 no_resource_yet ls s o = count_of_none 2 ls (λ i u e. omega (arith, o i u))
 
 -- the lines with one more at the end
-pub line_at_old : (ls : List Line) (l : Line) (i : ℕ) → i < length ls → line_at (ls ++ (l ∷ [])) i ≡ line_at ls i
+pub line_at_old : (ls : List (Option Line)) (l : Option Line) (i : ℕ) → i < length ls → line_at (ls ++ (l ∷ [])) i ≡ line_at ls i
 unfolding line_at
-line_at_old ls l i h = get_or-append ls (l ∷ []) Malformed i h
+line_at_old ls l i h = get_or-append ls (l ∷ []) None i h
 
-pub line_at_new : (ls : List Line) (l : Line) → line_at (ls ++ (l ∷ [])) (length ls) ≡ l
+pub line_at_new : (ls : List (Option Line)) (l : Option Line) → line_at (ls ++ (l ∷ [])) (length ls) ≡ l
 unfolding line_at
-line_at_new ls l = get_or-append_seam ls l [] Malformed
+line_at_new ls l = get_or-append_seam ls l [] None

@@ -12,11 +12,12 @@ use Rattle.below.proofs.Search.{any_true, any_false}
 use Rattle.plan.specs.declared.Plan.{Plan}
 use Rattle.plan.specs.Plan.{budget, owner, is_global, declares}
 use Rattle.reader.specs.declared.Line.{Line}
-use Rattle.reader.specs.declared.Line.TheVariants.{Subsystem, Task, Resource, Uses, Malformed}
+use Rattle.reader.specs.declared.Line.TheVariants.{Subsystem, Task, Resource, Uses}
 use Rattle.reader.specs.Line.{kind_of}
 use Rattle.reader.specs.Conditions.{not_grammar, kind_order, too_many_rows, no_such_row, out_of_range, twice, two_subsystems, above_budget}
 use Rattle.exactly.specs.Listed.{line_at, count_of, row_of, budget_said, owner_said, Global, OfGrammar, InOrder, RowsLeft, RowsThere, InRange, Once, FromOneSubsystem, WithinBudget}
 use Rattle.exactly.proofs.ListedTied.{said_global, said_local, Stands, Tied}
+use Rattle.std.proofs.Common.{Option, Some, None}
 
 -- a test that is true exactly when a condition is broken
 pub record Decides (b : Bool) (A : Type 0) : Type 0 where
@@ -49,20 +50,14 @@ decides_and true b x y = record { met = λ e. (x.met refl, y.met e); broken = λ
 decides_and false b x y = record { met = λ e. absurd (true≢false e); broken = λ e c. x.broken refl c.0 }
 
 -- 21
-pub decides_grammar : (l : Line) → Decides (not_grammar l) (OfGrammar l)
-unfolding not_grammar kind_of
-decides_grammar l = record { met = λ e q. eqb-false (kind_of l) 4 e (ap kind_of q); broken = λ e c. c (malformed l e) }
-  where
-    malformed : (l : Line) → eqb (kind_of l) 4 ≡ true → l ≡ Malformed
-    malformed (Subsystem period budget) e = absurd (false≢true e)
-    malformed (Task subsystem) e = absurd (false≢true e)
-    malformed (Resource kind) e = absurd (false≢true e)
-    malformed (Uses task resource length) e = absurd (false≢true e)
-    malformed Malformed e = refl
+pub decides_grammar : (l : Option Line) → Decides (not_grammar l) (OfGrammar l)
+unfolding not_grammar
+decides_grammar None = record { met = λ e. absurd (true≢false e); broken = λ e c. c refl }
+decides_grammar (Some x) = record { met = λ e q. absurd (cc); broken = λ e. absurd (false≢true e) }
 
-module _ (above : List Line) (last : ℕ) (p : Plan) (w : Tied above last p) where
+module _ (above : List (Option Line)) (last : ℕ) (p : Plan) (w : Tied above last p) where
   -- 22
-  pub decides_order : (l : Line) → Decides (kind_order last l) (InOrder above l)
+  pub decides_order : (l : Option Line) → Decides (kind_order last l) (InOrder above l)
   unfolding kind_order
   decides_order l = record {
     met = λ e i h. omega (arith, ltb-false (kind_of l) last e, w.latest.upper i h);
@@ -70,33 +65,33 @@ module _ (above : List Line) (last : ℕ) (p : Plan) (w : Tied above last p) whe
   }
 
   -- 23
-  pub decides_rows_left : (l : Line) → Decides (too_many_rows p l) (RowsLeft above l)
+  pub decides_rows_left : (l : Option Line) → Decides (too_many_rows p l) (RowsLeft above l)
   unfolding too_many_rows
-  decides_rows_left (Subsystem period budget) = record {
+  decides_rows_left (Some (Subsystem period budget)) = record {
     met = λ e. omega (arith, leb-false 8 p.subsystems e, w.tables.subsystems_are);
     broken = λ e c. omega (arith, leb-true 8 p.subsystems e, w.tables.subsystems_are);
   }
-  decides_rows_left (Task subsystem) = record {
+  decides_rows_left (Some (Task subsystem)) = record {
     met = λ e. omega (arith, leb-false 32 p.tasks e, w.tables.tasks_are);
     broken = λ e c. omega (arith, leb-true 32 p.tasks e, w.tables.tasks_are);
   }
-  decides_rows_left (Resource kind) = record {
+  decides_rows_left (Some (Resource kind)) = record {
     met = λ e. omega (arith, leb-false 16 p.resources e, w.tables.resources_are);
     broken = λ e c. omega (arith, leb-true 16 p.resources e, w.tables.resources_are);
   }
-  decides_rows_left (Uses task resource length) = free
-  decides_rows_left Malformed = free
+  decides_rows_left (Some (Uses task resource length)) = free
+  decides_rows_left None = free
 
   -- 24
-  pub decides_rows_there : (l : Line) → Decides (no_such_row p l) (RowsThere above l)
+  pub decides_rows_there : (l : Option Line) → Decides (no_such_row p l) (RowsThere above l)
   unfolding no_such_row
-  decides_rows_there (Subsystem period budget) = free
-  decides_rows_there (Task subsystem) = record {
+  decides_rows_there (Some (Subsystem period budget)) = free
+  decides_rows_there (Some (Task subsystem)) = record {
     met = λ e. omega (arith, leb-false p.subsystems subsystem e, w.tables.subsystems_are);
     broken = λ e c. omega (arith, leb-true p.subsystems subsystem e, w.tables.subsystems_are);
   }
-  decides_rows_there (Resource kind) = free
-  decides_rows_there (Uses task resource length) = go (leb p.tasks task) refl (leb p.resources resource) refl
+  decides_rows_there (Some (Resource kind)) = free
+  decides_rows_there (Some (Uses task resource length)) = go (leb p.tasks task) refl (leb p.resources resource) refl
     where
       go : (a : Bool) → leb p.tasks task ≡ a → (b : Bool) → leb p.resources resource ≡ b → Decides (a || b) ((task < count_of 1 above) × (resource < count_of 2 above))
       go true e b q = record { met = λ f. absurd (true≢false f); broken = λ f c. omega (arith, leb-true p.tasks task e, w.tables.tasks_are, c) }
@@ -105,7 +100,7 @@ module _ (above : List Line) (last : ℕ) (p : Plan) (w : Tied above last p) whe
         met = λ f. (omega (arith, leb-false p.tasks task e, w.tables.tasks_are), omega (arith, leb-false p.resources resource q, w.tables.resources_are));
         broken = λ f. absurd (false≢true f);
       }
-  decides_rows_there Malformed = free
+  decides_rows_there None = free
 
   -- global by the plan is global by the lines
   pub global_met : (r : ℕ) → is_global p r ≡ true → Global above r
@@ -117,9 +112,9 @@ module _ (above : List Line) (last : ℕ) (p : Plan) (w : Tied above last p) whe
   local_met r e = said_local (row_of 2 above r) (rw (w.tables.kinds_are r) at e)
 
   -- 25
-  pub decides_range : (l : Line) → Decides (out_of_range p l) (InRange above l)
+  pub decides_range : (l : Option Line) → Decides (out_of_range p l) (InRange above l)
   unfolding out_of_range
-  decides_range (Subsystem period budget) =
+  decides_range (Some (Subsystem period budget)) =
       decides_as
       {A = ((1 ≤ period × period ≤ 10000) × 1 ≤ budget) × budget ≤ period}
       (λ c. (c.0.0.0, c.0.0.1, c.0.1, c.1))
@@ -128,9 +123,9 @@ module _ (above : List Line) (last : ℕ) (p : Plan) (w : Tied above last p) whe
       (decides_and (leb 1 period && leb period 10000) (leb 1 budget)
       (decides_and (leb 1 period) (leb period 10000) (decides_le 1 period) (decides_le period 10000)) (decides_le 1 budget))
       (decides_le budget period))
-  decides_range (Task subsystem) = free
-  decides_range (Resource kind) = free
-  decides_range (Uses task resource length) = go (is_global p resource) refl
+  decides_range (Some (Task subsystem)) = free
+  decides_range (Some (Resource kind)) = free
+  decides_range (Some (Uses task resource length)) = go (is_global p resource) refl
     where
       go : (b : Bool) → is_global p resource ≡ b → Decides (not (cond b (leb 1 length && leb length 10000) (eqb length 0)))
           ((Global above resource → (1 ≤ length) × (length ≤ 10000)) × ((Global above resource → ⊥) → length ≡ 0))
@@ -139,45 +134,45 @@ module _ (above : List Line) (last : ℕ) (p : Plan) (w : Tied above last p) whe
           (λ f. f.0 (global_met resource e))
           (decides_and (leb 1 length) (leb length 10000) (decides_le 1 length) (decides_le length 10000))
       go false e = decides_as (λ c. (λ g. absurd (local_met resource e g), λ n. c)) (λ f. f.1 (local_met resource e)) (decides_eq length 0)
-  decides_range Malformed = free
+  decides_range None = free
 
   -- the rows that a U line names are rows of the plan
-  stands : (t r m : ℕ) → RowsThere above (Uses t r m) → (k : ℕ) → k < p.tasks → declares p k r ≡ true → Stands p k r
+  stands : (t r m : ℕ) → RowsThere above (Some (Uses t r m)) → (k : ℕ) → k < p.tasks → declares p k r ≡ true → Stands p k r
   stands t r m h k u d = record { task_there = u; resource_there = omega (arith, h, w.tables.resources_are); declared = d }
 
   -- 26
-  pub decides_once : (l : Line) → RowsThere above l → Decides (twice p l) (Once above l)
+  pub decides_once : (l : Option Line) → RowsThere above l → Decides (twice p l) (Once above l)
   unfolding twice
-  decides_once (Subsystem period budget) h = free
-  decides_once (Task subsystem) h = free
-  decides_once (Resource kind) h = free
-  decides_once (Uses task resource length) h = record { met = met; broken = broken }
+  decides_once (Some (Subsystem period budget)) h = free
+  decides_once (Some (Task subsystem)) h = free
+  decides_once (Some (Resource kind)) h = free
+  decides_once (Some (Uses task resource length)) h = record { met = met; broken = broken }
     where
-      met : declares p task resource ≡ false → (i m : ℕ) → i < lib.ListN.length above → line_at above i ≡ Uses task resource m → ⊥
+      met : declares p task resource ≡ false → (i m : ℕ) → i < lib.ListN.length above → line_at above i ≡ Some (Uses task resource m) → ⊥
       met e i m u q =
           let s = w.pairs.uses task resource (record { at = i; there = u; size = m; line = q }) in
           true≢false (sym s.declared ∙ e)
 
-      broken : declares p task resource ≡ true → ((i m : ℕ) → i < lib.ListN.length above → line_at above i ≡ Uses task resource m → ⊥) → ⊥
+      broken : declares p task resource ≡ true → ((i m : ℕ) → i < lib.ListN.length above → line_at above i ≡ Some (Uses task resource m) → ⊥) → ⊥
       broken e c =
           let u = w.pairs.used task resource (stands task resource length h task (omega (arith, h, w.tables.tasks_are)) e) in
           c u.at u.size u.there u.line
-  decides_once Malformed h = free
+  decides_once None h = free
 
   -- 27
-  pub decides_one_subsystem : (l : Line) → RowsThere above l → Decides (two_subsystems p l) (FromOneSubsystem above l)
+  pub decides_one_subsystem : (l : Option Line) → RowsThere above l → Decides (two_subsystems p l) (FromOneSubsystem above l)
   unfolding two_subsystems owner
-  decides_one_subsystem (Subsystem period budget) h = free
-  decides_one_subsystem (Task subsystem) h = free
-  decides_one_subsystem (Resource kind) h = free
-  decides_one_subsystem (Uses task resource length) h = go (is_global p resource) refl
+  decides_one_subsystem (Some (Subsystem period budget)) h = free
+  decides_one_subsystem (Some (Task subsystem)) h = free
+  decides_one_subsystem (Some (Resource kind)) h = free
+  decides_one_subsystem (Some (Uses task resource length)) h = go (is_global p resource) refl
     where
       -- a task of another subsystem that declares the resource
       other : ℕ → Bool
       other k = declares p k resource && not (eqb (owner p k) (owner p task))
 
       SameOwner : Type 0
-      SameOwner = (i k m : ℕ) → i < lib.ListN.length above → line_at above i ≡ Uses k resource m → owner_said (row_of 1 above k) ≡ owner_said (row_of 1 above task)
+      SameOwner = (i k m : ℕ) → i < lib.ListN.length above → line_at above i ≡ Some (Uses k resource m) → owner_said (row_of 1 above k) ≡ owner_said (row_of 1 above task)
 
       same : (k : ℕ) → Stands p k resource → other k ≡ false → owner p k ≡ owner p task
       same k s e = eqb-true (owner p k) (owner p task) (not-false (eqb (owner p k) (owner p task)) (rw s.declared at e))
@@ -198,16 +193,16 @@ module _ (above : List Line) (last : ℕ) (p : Plan) (w : Tied above last p) whe
       go : (b : Bool) → is_global p resource ≡ b → Decides (not b && any p.tasks other) ((Global above resource → ⊥) → SameOwner)
       go true e = record { met = λ q n. absurd (n (global_met resource e)); broken = λ q. absurd (false≢true q) }
       go false e = record { met = λ q n. none q; broken = λ q c. some q (c (local_met resource e)) }
-  decides_one_subsystem Malformed h = free
+  decides_one_subsystem None h = free
 
   -- 28
-  pub decides_budget : (l : Line) → Decides (above_budget p l) (WithinBudget above l)
+  pub decides_budget : (l : Option Line) → Decides (above_budget p l) (WithinBudget above l)
   unfolding above_budget budget owner
-  decides_budget (Subsystem period budget) = free
-  decides_budget (Task subsystem) = free
-  decides_budget (Resource kind) = free
-  decides_budget (Uses task resource length) = rw (w.tables.owners_are task, w.tables.budgets_are (owner_said (row_of 1 above task))) (record {
+  decides_budget (Some (Subsystem period budget)) = free
+  decides_budget (Some (Task subsystem)) = free
+  decides_budget (Some (Resource kind)) = free
+  decides_budget (Some (Uses task resource length)) = rw (w.tables.owners_are task, w.tables.budgets_are (owner_said (row_of 1 above task))) (record {
     met = λ e. ltb-false (budget_said (row_of 0 above (owner_said (row_of 1 above task)))) length e;
     broken = λ e c. omega (arith, ltb-true (budget_said (row_of 0 above (owner_said (row_of 1 above task)))) length e);
   })
-  decides_budget Malformed = free
+  decides_budget None = free

@@ -15,8 +15,9 @@ use Rattle.plan.specs.declared.Plan.{Plan}
 use Rattle.plan.specs.Limits.{undeclared}
 use Rattle.plan.specs.Plan.{place, length_of, declares}
 use Rattle.reader.specs.declared.Line.{Line}
-use Rattle.reader.specs.declared.Line.TheVariants.{Subsystem, Task, Resource, Uses, Malformed}
+use Rattle.reader.specs.declared.Line.TheVariants.{Subsystem, Task, Resource, Uses}
 use Rattle.reader.specs.Reading.{empty_plan, opened, with_subsystem, with_task, with_resource, with_use, with_line}
+use Rattle.std.proofs.Common.{Option, Some, None}
 
 -- the lists of a plan are as long as its tables
 pub record Shaped (p : Plan) : Type 0 where
@@ -108,37 +109,37 @@ shaped_empty = record {
 }
 
 -- whatever the line, the lists keep their lengths
-pub shaped_line : (p : Plan) (l : Line) → Shaped p → Shaped (with_line p l)
+pub shaped_line : (p : Plan) (l : Option Line) → Shaped p → Shaped (with_line p l)
 unfolding with_line with_subsystem with_task with_resource with_use
-shaped_line p (Subsystem period budget) w = record {
+shaped_line p (Some (Subsystem period budget)) w = record {
   periods_long = length-set p.periods p.subsystems period ∙ w.periods_long;
   budgets_long = length-set p.budgets p.subsystems budget ∙ w.budgets_long;
   owners_long = w.owners_long;
   kinds_long = w.kinds_long;
   lengths_long = w.lengths_long;
 }
-shaped_line p (Task subsystem) w = record {
+shaped_line p (Some (Task subsystem)) w = record {
   periods_long = w.periods_long;
   budgets_long = w.budgets_long;
   owners_long = length-set p.owners p.tasks subsystem ∙ w.owners_long;
   kinds_long = w.kinds_long;
   lengths_long = w.lengths_long;
 }
-shaped_line p (Resource kind) w = record {
+shaped_line p (Some (Resource kind)) w = record {
   periods_long = w.periods_long;
   budgets_long = w.budgets_long;
   owners_long = w.owners_long;
   kinds_long = length-set p.kinds p.resources kind ∙ w.kinds_long;
   lengths_long = length_opened p.tasks p.resources p.lengths ∙ w.lengths_long;
 }
-shaped_line p (Uses task resource length) w = record {
+shaped_line p (Some (Uses task resource length)) w = record {
   periods_long = w.periods_long;
   budgets_long = w.budgets_long;
   owners_long = w.owners_long;
   kinds_long = w.kinds_long;
   lengths_long = length-set p.lengths (place task resource) length ∙ w.lengths_long;
 }
-shaped_line p Malformed w = w
+shaped_line p None w = w
 
 -- the lengths with one more resource: its own are undeclared, the others kept
 pub resource_own : (p : Plan) (k t : ℕ) → Shaped p → p.tasks ≤ 32 → p.resources < 16 → t < p.tasks → length_of (with_resource p k) t p.resources ≡ undeclared

@@ -10,7 +10,6 @@ use lib.Seq.{take-suc, take-length}
 use Rattle.text.specs.Lines.{lines, body}
 use Rattle.plan.specs.Accepted.{accepted}
 use Rattle.reader.specs.declared.Line.{Line}
-use Rattle.reader.specs.declared.Line.TheVariants.{Malformed}
 use Rattle.reader.specs.Numbers.{is_accepted}
 use Rattle.reader.specs.Line.{line_of, kind_of}
 use Rattle.reader.specs.Reading.{empty_plan, reading}
@@ -24,24 +23,25 @@ use Rattle.exactly.proofs.SoundPlan.{Sound, sound_accepted}
 use Rattle.exactly.proofs.SoundFacts.{Ranged, sound_ranged}
 use Rattle.exactly.proofs.SoundLines.{sound_empty, sound_line}
 use Rattle.exactly.proofs.SoundKinds.{kind_of_line}
+use Rattle.std.proofs.Common.{Option, Some, None}
 
 -- the plan of some lines that meet their conditions
-record Built (ls : List Line) : Type 0 where
+record Built (ls : List (Option Line)) : Type 0 where
   last : ℕ
   tied : Tied ls last (plan_after empty_plan ls)
   sound : Sound (plan_after empty_plan ls)
 
-built_line : (ls : List Line) (l : Line) → Built ls → ((c : ℕ) → Condition c ls l) → kind_said l ≤ 1 → Built (ls ++ (l ∷ []))
+built_line : (ls : List (Option Line)) (l : Option Line) → Built ls → ((c : ℕ) → Condition c ls l) → kind_said l ≤ 1 → Built (ls ++ (l ∷ []))
 built_line ls l b c k = record {
   last = kind_of l;
   tied = rw (plan_after_line empty_plan ls l) (tied_line ls b.last (plan_after empty_plan ls) l b.tied c);
   sound = rw (plan_after_line empty_plan ls l) (sound_line ls b.last (plan_after empty_plan ls) l b.tied c k b.sound);
 }
 
-module _ (all : List Line) (each : (i : ℕ) → i < length all → LineMeets all i) (kinds : (i : ℕ) → kind_said (line_at all i) ≤ 1) where
+module _ (all : List (Option Line)) (each : (i : ℕ) → i < length all → LineMeets all i) (kinds : (i : ℕ) → kind_said (line_at all i) ≤ 1) where
   built_next : (i : ℕ) → i < length all → Built (take i all) → Built (take (suc i) all)
   unfolding line_at
-  built_next i h b = rw (take-suc all i Malformed h) (built_line (take i all) (line_at all i) b (each i h) (kinds i))
+  built_next i h b = rw (take-suc all i None h) (built_line (take i all) (line_at all i) b (each i h) (kinds i))
 
   built_at : (i : ℕ) → i ≤ length all → Built (take i all)
   unfolding plan_after
@@ -51,7 +51,7 @@ module _ (all : List Line) (each : (i : ℕ) → i < length all → LineMeets al
   built : Built all
   built = rw (take-length all) at (built_at (length all) (omega arith))
 
-empty_line : line_of [] ≡ Malformed
+empty_line : line_of [] ≡ None
 unfolding line_of body
 empty_line = refl
 

@@ -12,7 +12,7 @@ use Rattle.below.proofs.Search.{last_or_before}
 use Rattle.plan.specs.declared.Plan.{Plan}
 use Rattle.plan.specs.Plan.{budget, owner, is_global, place, length_of, declares}
 use Rattle.reader.specs.declared.Line.{Line}
-use Rattle.reader.specs.declared.Line.TheVariants.{Subsystem, Task, Resource, Uses, Malformed}
+use Rattle.reader.specs.declared.Line.TheVariants.{Subsystem, Task, Resource, Uses}
 use Rattle.reader.specs.Reading.{empty_plan, with_subsystem, with_task, with_resource, with_use, with_line}
 use Rattle.exactly.specs.Listed.{row_of, owner_said, Condition}
 use Rattle.exactly.proofs.PlanShape.{zeros, shaped_empty, shaped_line, place_task, place_resource, declares_not, declares_same, resource_own, resource_else, use_own, use_else, same_or_apart}
@@ -20,6 +20,7 @@ use Rattle.exactly.proofs.ListedRows.{no_resource_yet}
 use Rattle.exactly.proofs.ListedTied.{kind_said, Stands, Tied}
 use Rattle.exactly.proofs.ListedTests.{global_met, local_met}
 use Rattle.exactly.proofs.SoundPlan.{RowsFit, PeriodFits, BudgetFits, OwnerFits, KindFits, LengthFits, UsesFit, Sound}
+use Rattle.std.proofs.Common.{Option, Some, None}
 
 -- the tables
 
@@ -129,7 +130,7 @@ record UseMeets (p : Plan) (t r m : ℕ) : Type 0 where
   within : m ≤ budget p (owner p t)
   one_owner : is_global p r ≡ false → (k : ℕ) → Stands p k r → owner p k ≡ owner p t
 
-use_meets : (above : List Line) (last : ℕ) (p : Plan) (t r m : ℕ) → Tied above last p → ((c : ℕ) → Condition c above (Uses t r m)) → UseMeets p t r m
+use_meets : (above : List (Option Line)) (last : ℕ) (p : Plan) (t r m : ℕ) → Tied above last p → ((c : ℕ) → Condition c above (Some (Uses t r m))) → UseMeets p t r m
 unfolding budget owner
 use_meets above last p t r m w c = record {
   task_there = omega (arith, c 3, w.tables.tasks_are);
@@ -220,13 +221,13 @@ sound_empty = record {
   };
 }
 
-pub sound_line : (above : List Line) (last : ℕ) (p : Plan) (l : Line) → Tied above last p → ((c : ℕ) → Condition c above l)
+pub sound_line : (above : List (Option Line)) (last : ℕ) (p : Plan) (l : Option Line) → Tied above last p → ((c : ℕ) → Condition c above l)
     → kind_said l ≤ 1 → Sound p → Sound (with_line p l)
 unfolding kind_said with_line with_subsystem with_task with_resource with_use
-sound_line above last p (Subsystem a b) t c k w =
+sound_line above last p (Some (Subsystem a b)) t c k w =
     let room : p.subsystems < 8 = omega (arith, c 2, t.tables.subsystems_are) in
     record {
-      shaped = shaped_line p (Subsystem a b) w.shaped;
+      shaped = shaped_line p (Some (Subsystem a b)) w.shaped;
       periods_fit = rows_more w.periods_fit a w.shaped.periods_long room ((c 4).0, (c 4).1);
       budgets_fit =
           budgets_more p.subsystems p.periods p.budgets a b w.budgets_fit w.shaped.budgets_long room
@@ -235,8 +236,8 @@ sound_line above last p (Subsystem a b) t c k w =
       kinds_fit = w.kinds_fit;
       uses_fit = uses_subsystem p w a b;
     }
-sound_line above last p (Task s) t c k w = record {
-  shaped = shaped_line p (Task s) w.shaped;
+sound_line above last p (Some (Task s)) t c k w = record {
+  shaped = shaped_line p (Some (Task s)) w.shaped;
   periods_fit = w.periods_fit;
   budgets_fit = w.budgets_fit;
   owners_fit =
@@ -244,22 +245,22 @@ sound_line above last p (Task s) t c k w = record {
   kinds_fit = w.kinds_fit;
   uses_fit = uses_task p w s (t.tables.resources_are ∙ no_resource_yet above s (c 1));
 }
-sound_line above last p (Resource i) t c k w =
+sound_line above last p (Some (Resource i)) t c k w =
     let room : p.resources < 16 = omega (arith, c 2, t.tables.resources_are) in
     record {
-      shaped = shaped_line p (Resource i) w.shaped;
+      shaped = shaped_line p (Some (Resource i)) w.shaped;
       periods_fit = w.periods_fit;
       budgets_fit = w.budgets_fit;
       owners_fit = w.owners_fit;
       kinds_fit = rows_more w.kinds_fit i w.shaped.kinds_long room k;
       uses_fit = uses_resource_lem p w i room;
     }
-sound_line above last p (Uses i r m) t c k w = record {
-  shaped = shaped_line p (Uses i r m) w.shaped;
+sound_line above last p (Some (Uses i r m)) t c k w = record {
+  shaped = shaped_line p (Some (Uses i r m)) w.shaped;
   periods_fit = w.periods_fit;
   budgets_fit = w.budgets_fit;
   owners_fit = w.owners_fit;
   kinds_fit = w.kinds_fit;
   uses_fit = uses_use p i r m w (use_meets above last p i r m t c);
 }
-sound_line above last p Malformed t c k w = w
+sound_line above last p None t c k w = w

@@ -2,7 +2,6 @@
 use mathlib.Core.Path.{◌≡◌, refl}
 use mathlib.Core.Bool.{false}
 use mathlib.Core.List.{List, [], ◌∷◌, ◌++◌, append-nil}
-use Rattle.std.proofs.Common.{Some}
 use Prim.Native.Nat.{ℕ, ◌≤◌}
 use native.Mathlib.Omega.{arith}
 use lib.Dec.{eqb}
@@ -14,6 +13,7 @@ use Rattle.reader.specs.declared.Line.TheVariants.{Subsystem, Task, Resource, Us
 use Rattle.reader.specs.Line.{of_numbers, of_kind, of_kind_field, of_fields, line_of}
 use Rattle.exactly.specs.TextOf.{tabbed}
 use Rattle.exactly.proofs.TextOfDecimal.{Plain, decimal_number}
+use Rattle.std.proofs.Common.{Option, Some, None}
 
 -- a text that is one line, with this body
 pub record OneLine (l b : List ℕ) : Type 0 where
@@ -85,23 +85,23 @@ numbers_none = refl
 
 -- the four kinds of line
 
-pub subsystem_line : (a b : ℕ) → a ≤ 99999 → b ≤ 99999 → of_fields (bytes "S" ∷ decimal a ∷ decimal b ∷ []) ≡ Subsystem a b
+pub subsystem_line : (a b : ℕ) → a ≤ 99999 → b ≤ 99999 → of_fields (bytes "S" ∷ decimal a ∷ decimal b ∷ []) ≡ Some (Subsystem a b)
 unfolding of_fields bytes same of_numbers of_two
 subsystem_line a b h k = rw (numbers_more a (decimal b ∷ []) (b ∷ []) h (numbers_more b [] [] k numbers_none), of_numbers)
 
-pub task_line : (s : ℕ) → s ≤ 99999 → of_fields (bytes "T" ∷ decimal s ∷ []) ≡ Task s
+pub task_line : (s : ℕ) → s ≤ 99999 → of_fields (bytes "T" ∷ decimal s ∷ []) ≡ Some (Task s)
 unfolding of_fields bytes same of_numbers of_one
 task_line s h = rw (numbers_more s [] [] h numbers_none, of_numbers)
 
-pub local_line : of_fields (bytes "R" ∷ bytes "L" ∷ []) ≡ Resource 0
+pub local_line : of_fields (bytes "R" ∷ bytes "L" ∷ []) ≡ Some (Resource 0)
 unfolding of_fields of_kind_field of_kind bytes same
 local_line = refl
 
-pub global_line : of_fields (bytes "R" ∷ bytes "G" ∷ []) ≡ Resource 1
+pub global_line : of_fields (bytes "R" ∷ bytes "G" ∷ []) ≡ Some (Resource 1)
 unfolding of_fields of_kind_field of_kind bytes same
 global_line = refl
 
-pub use_line : (t r m : ℕ) → t ≤ 99999 → r ≤ 99999 → m ≤ 99999 → of_fields (bytes "U" ∷ decimal t ∷ decimal r ∷ decimal m ∷ []) ≡ Uses t r m
+pub use_line : (t r m : ℕ) → t ≤ 99999 → r ≤ 99999 → m ≤ 99999 → of_fields (bytes "U" ∷ decimal t ∷ decimal r ∷ decimal m ∷ []) ≡ Some (Uses t r m)
 unfolding of_fields bytes same of_numbers of_three
 use_line t r m h k l =
     rw (

@@ -15,6 +15,7 @@ use Rattle.reader.specs.Line.{line_of, kind_of}
 use Rattle.reader.specs.Conditions.{not_grammar, kind_order, too_many_rows, no_such_row, out_of_range, twice, two_subsystems, above_budget}
 use Rattle.reader.specs.Reading.{first_of, judged, with_line, read_from}
 use Rattle.exactly.specs.TextOf.{texts}
+use Rattle.std.proofs.Common.{Option, Some, None}
 
 -- a reading goes on with the rest of a text, after a line of a kind up to k, from the plan p
 pub record Onward (r : Reading) (rest : List ℕ) (k : ℕ) (p : Plan) : Type 0 where
@@ -50,7 +51,7 @@ reads_texts k (suc n) f P h =
     reads_then k k k (texts n f) (f n) (P 0) (P n) (P (suc n)) (reads_texts k n f P (λ i u. h i (le_step u))) (h n (lt-suc_self n))
 
 -- a line that passes every test
-pub record Passes (p : Plan) (last : ℕ) (l : Line) : Type 0 where
+pub record Passes (p : Plan) (last : ℕ) (l : Option Line) : Type 0 where
   pub grammar : not_grammar l ≡ false
   pub order : kind_order last l ≡ false
   pub rows_left : too_many_rows p l ≡ false
@@ -60,7 +61,7 @@ pub record Passes (p : Plan) (last : ℕ) (l : Line) : Type 0 where
   pub one_subsystem : two_subsystems p l ≡ false
   pub within : above_budget p l ≡ false
 
-passes_judged : (p : Plan) (last n : ℕ) (l : Line) → Passes p last l → judged p last n l ≡ Accepted
+passes_judged : (p : Plan) (last n : ℕ) (l : Option Line) → Passes p last l → judged p last n l ≡ Accepted
 unfolding judged first_of
 passes_judged p last n l w = rw (w.grammar, w.order, w.rows_left, w.rows_there, w.range, w.once, w.one_subsystem, w.within)
 
@@ -70,7 +71,7 @@ unfolding read_from is_accepted
 passes_read p last n x xs w = rw (passes_judged p last n (line_of x) w, read_from)
 
 -- one line
-pub reads_line : (k : ℕ) (text : List ℕ) (p q : Plan) (l : Line) → ((rest : List ℕ) → lines (text ++ rest) ≡ text ∷ lines rest) → line_of text ≡ l → kind_of l ≡ k
+pub reads_line : (k : ℕ) (text : List ℕ) (p q : Plan) (l : Option Line) → ((rest : List ℕ) → lines (text ++ rest) ≡ text ∷ lines rest) → line_of text ≡ l → kind_of l ≡ k
     → ((last : ℕ) → last ≤ k → Passes p last l) → with_line p l ≡ q → Reads k k text p q
 reads_line k text p q l splits e kind w next rest n last h = record {
   line = n + 1;

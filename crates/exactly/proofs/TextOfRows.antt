@@ -22,6 +22,7 @@ use Rattle.exactly.proofs.TextOfDecimal.{Plain, decimal_plain}
 use Rattle.exactly.proofs.TextOfLines.{AllPlain, one_line, line_of_lem, subsystem_line, task_line, local_line, global_line}
 use Rattle.exactly.proofs.TextOfReads.{Reads, reads_texts, reads_line, Passes}
 use Rattle.exactly.proofs.TextOfTables.{copied, copied_whole, opened_to}
+use Rattle.std.proofs.Common.{Option, Some, None}
 
 -- a plan cut to its first i subsystems, or to these and its first i tasks, or to all but the lengths of all but its first i resources
 unfoldable pub subsystems_to : Plan → ℕ → Plan
@@ -78,19 +79,19 @@ with_lengths p ls =
     }
 
 -- a line of fields is read where it passes
-pub reads_fields : (k : ℕ) (f : List ℕ) (fs : List (List ℕ)) (p q : Plan) (l : Line) → Plain f → AllPlain fs → of_fields (f ∷ fs) ≡ l → kind_of l ≡ k
+pub reads_fields : (k : ℕ) (f : List ℕ) (fs : List (List ℕ)) (p q : Plan) (l : Option Line) → Plain f → AllPlain fs → of_fields (f ∷ fs) ≡ l → kind_of l ≡ k
     → ((last : ℕ) → last ≤ k → Passes p last l) → with_line p l ≡ q → Reads k k (tabbed (f ∷ fs)) p q
 reads_fields k f fs p q l pf pfs e kind w next =
     reads_line k (tabbed (f ∷ fs)) p q l (one_line f fs pf pfs) (line_of_lem f fs pf pfs ∙ e) kind w next
 
-range_subsystem : (q : Plan) (a b : ℕ) → (1 ≤ a) × (a ≤ 10000) → (1 ≤ b) × (b ≤ a) → out_of_range q (Subsystem a b) ≡ false
+range_subsystem : (q : Plan) (a b : ℕ) → (1 ≤ a) × (a ≤ 10000) → (1 ≤ b) × (b ≤ a) → out_of_range q (Some (Subsystem a b)) ≡ false
 unfolding out_of_range
 range_subsystem q a b h l = rw (le-leb 1 a h.0, le-leb a 10000 h.1, le-leb 1 b l.0, le-leb b a l.1)
 
 module _ (p : Plan) (w : Sound p) where
   -- the S lines
 
-  subsystem_passes : (i : ℕ) → i < p.subsystems → (last : ℕ) → last ≤ 0 → Passes (subsystems_to p i) last (Subsystem (period p i) (budget p i))
+  subsystem_passes : (i : ℕ) → i < p.subsystems → (last : ℕ) → last ≤ 0 → Passes (subsystems_to p i) last (Some (Subsystem (period p i) (budget p i)))
   unfolding subsystems_to not_grammar kind_order too_many_rows no_such_row twice two_subsystems above_budget kind_of period budget
   subsystem_passes i h last u = record {
     grammar = refl;
@@ -103,7 +104,7 @@ module _ (p : Plan) (w : Sound p) where
     within = refl;
   }
 
-  subsystem_next : (i : ℕ) → with_line (subsystems_to p i) (Subsystem (period p i) (budget p i)) ≡ subsystems_to p (suc i)
+  subsystem_next : (i : ℕ) → with_line (subsystems_to p i) (Some (Subsystem (period p i) (budget p i))) ≡ subsystems_to p (suc i)
   unfolding subsystems_to with_line with_subsystem copied period budget
   subsystem_next i = rw (add-one i)
 
@@ -112,7 +113,7 @@ module _ (p : Plan) (w : Sound p) where
   subsystem_reads i h =
       let f = w.periods_fit.fits i h in
       let g = w.budgets_fit.fits i h in
-      reads_fields 0 (bytes "S") (decimal (period p i) ∷ decimal (budget p i) ∷ []) (subsystems_to p i) (subsystems_to p (suc i)) (Subsystem (period p i) (budget p i))
+      reads_fields 0 (bytes "S") (decimal (period p i) ∷ decimal (budget p i) ∷ []) (subsystems_to p i) (subsystems_to p (suc i)) (Some (Subsystem (period p i) (budget p i)))
       (omega arith)
       (decimal_plain (period p i), (decimal_plain (budget p i), tt))
       (subsystem_line (period p i) (budget p i) (omega arith) (omega arith))
@@ -135,7 +136,7 @@ module _ (p : Plan) (w : Sound p) where
 
   -- the T lines
 
-  task_passes : (i : ℕ) → i < p.tasks → (last : ℕ) → last ≤ 1 → Passes (tasks_to p i) last (Task (owner p i))
+  task_passes : (i : ℕ) → i < p.tasks → (last : ℕ) → last ≤ 1 → Passes (tasks_to p i) last (Some (Task (owner p i)))
   unfolding tasks_to not_grammar kind_order too_many_rows no_such_row out_of_range twice two_subsystems above_budget kind_of owner
   task_passes i h last u = record {
     grammar = refl;
@@ -148,14 +149,14 @@ module _ (p : Plan) (w : Sound p) where
     within = refl;
   }
 
-  task_next : (i : ℕ) → with_line (tasks_to p i) (Task (owner p i)) ≡ tasks_to p (suc i)
+  task_next : (i : ℕ) → with_line (tasks_to p i) (Some (Task (owner p i))) ≡ tasks_to p (suc i)
   unfolding tasks_to with_line with_task copied owner
   task_next i = rw (add-one i)
 
   task_reads : (i : ℕ) → i < p.tasks → Reads 1 1 (task_text p i) (tasks_to p i) (tasks_to p (suc i))
   unfolding task_text kind_of bytes owner
   task_reads i h =
-      reads_fields 1 (bytes "T") (decimal (owner p i) ∷ []) (tasks_to p i) (tasks_to p (suc i)) (Task (owner p i))
+      reads_fields 1 (bytes "T") (decimal (owner p i) ∷ []) (tasks_to p i) (tasks_to p (suc i)) (Some (Task (owner p i)))
       (omega arith)
       (decimal_plain (owner p i), tt)
       (task_line (owner p i) (omega (arith, w.owners_fit.fits i h, w.periods_fit.few)))
@@ -175,7 +176,7 @@ module _ (p : Plan) (w : Sound p) where
   kind : ℕ → ℕ
   kind r = get_or p.kinds r 0
 
-  resource_passes : (i : ℕ) → i < p.resources → (last : ℕ) → last ≤ 2 → Passes (resources_to p i) last (Resource (kind i))
+  resource_passes : (i : ℕ) → i < p.resources → (last : ℕ) → last ≤ 2 → Passes (resources_to p i) last (Some (Resource (kind i)))
   unfolding resources_to not_grammar kind_order too_many_rows no_such_row out_of_range twice two_subsystems above_budget kind_of
   resource_passes i h last u = record {
     grammar = refl;
@@ -188,7 +189,7 @@ module _ (p : Plan) (w : Sound p) where
     within = refl;
   }
 
-  resource_next : (i : ℕ) → with_line (resources_to p i) (Resource (kind i)) ≡ resources_to p (suc i)
+  resource_next : (i : ℕ) → with_line (resources_to p i) (Some (Resource (kind i))) ≡ resources_to p (suc i)
   unfolding resources_to with_line with_resource copied opened_to kind
   resource_next i = rw (add-one i)
 
@@ -200,18 +201,18 @@ module _ (p : Plan) (w : Sound p) where
       go true = omega arith
       go false = omega arith
 
-  kind_line : (i : ℕ) → i < p.resources → of_fields (bytes "R" ∷ kind_text p i ∷ []) ≡ Resource (kind i)
+  kind_line : (i : ℕ) → i < p.resources → of_fields (bytes "R" ∷ kind_text p i ∷ []) ≡ Some (Resource (kind i))
   unfolding kind_text is_global kind
   kind_line i h = go (is_global p i) refl
     where
-      go : (b : Bool) → is_global p i ≡ b → of_fields (bytes "R" ∷ elim b [ true ↦ bytes "G" | false ↦ bytes "L" ] ∷ []) ≡ Resource (kind i)
-      go true e = global_line ∙ ap Resource (sym (eqb-true (kind i) 1 e))
-      go false e = local_line ∙ ap Resource (omega (arith, eqb-false (kind i) 1 e, w.kinds_fit.fits i h))
+      go : (b : Bool) → is_global p i ≡ b → of_fields (bytes "R" ∷ elim b [ true ↦ bytes "G" | false ↦ bytes "L" ] ∷ []) ≡ Some (Resource (kind i))
+      go true e = global_line ∙ ap (λ k. Some (Resource k)) (sym (eqb-true (kind i) 1 e))
+      go false e = local_line ∙ ap (λ k. Some (Resource k)) (omega (arith, eqb-false (kind i) 1 e, w.kinds_fit.fits i h))
 
   resource_reads : (i : ℕ) → i < p.resources → Reads 2 2 (resource_text p i) (resources_to p i) (resources_to p (suc i))
   unfolding resource_text kind_of bytes
   resource_reads i h =
-      reads_fields 2 (bytes "R") (kind_text p i ∷ []) (resources_to p i) (resources_to p (suc i)) (Resource (kind i))
+      reads_fields 2 (bytes "R") (kind_text p i ∷ []) (resources_to p i) (resources_to p (suc i)) (Some (Resource (kind i)))
       (omega arith)
       (kind_plain i, tt)
       (kind_line i h)

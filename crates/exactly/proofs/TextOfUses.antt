@@ -19,6 +19,7 @@ use Rattle.plan.specs.Limits.{undeclared}
 use Rattle.plan.specs.Plan.{budget, owner, is_global, place, length_of, declares}
 use Rattle.plan.proofs.Facts.{row_there}
 use Rattle.reader.specs.declared.Line.TheVariants.{Uses}
+use Rattle.std.proofs.Common.{Some}
 use Rattle.reader.specs.Line.{kind_of}
 use Rattle.reader.specs.Conditions.{not_grammar, kind_order, too_many_rows, no_such_row, out_of_range, twice, two_subsystems, above_budget}
 use Rattle.reader.specs.Reading.{with_line, with_use}
@@ -66,7 +67,7 @@ module _ (p : Plan) (w : Sound p) where
       fits : LengthFits p t n
       fits = w.uses_fit.fits t n stands
 
-      range : out_of_range q (Uses t n (length_of p t n)) ≡ false
+      range : out_of_range q (Some (Uses t n (length_of p t n))) ≡ false
       unfolding out_of_range q before with_lengths is_global
       range = go (is_global p n) refl
         where
@@ -77,7 +78,7 @@ module _ (p : Plan) (w : Sound p) where
           go true e = rw (le-leb 1 m (fits.global e).0, le-leb m 10000 (fits.global e).1)
           go false e = rw (eq-eqb m 0 (fits.local e))
 
-      within : above_budget q (Uses t n (length_of p t n)) ≡ false
+      within : above_budget q (Some (Uses t n (length_of p t n))) ≡ false
       unfolding above_budget q before with_lengths budget owner
       within = le-ltb (budget p (owner p t)) (length_of p t n) (go (is_global p n) refl)
         where
@@ -105,7 +106,7 @@ module _ (p : Plan) (w : Sound p) where
           above : k < t → (declares q k n && not (eqb (owner p k) (owner p t))) ≡ false
           above h = go h (declares q k n) refl
 
-      one_subsystem : two_subsystems q (Uses t n (length_of p t n)) ≡ false
+      one_subsystem : two_subsystems q (Some (Uses t n (length_of p t n))) ≡ false
       unfolding two_subsystems q before with_lengths is_global owner
       one_subsystem = go (is_global p n) refl
         where
@@ -113,7 +114,7 @@ module _ (p : Plan) (w : Sound p) where
           go true e = refl
           go false e = any_absent p.tasks (λ k. declares q k n && not (eqb (owner p k) (owner p t))) (not_other e)
 
-      passes : (last : ℕ) → last ≤ 3 → Passes q last (Uses t n (length_of p t n))
+      passes : (last : ℕ) → last ≤ 3 → Passes q last (Some (Uses t n (length_of p t n)))
       unfolding not_grammar kind_order too_many_rows no_such_row twice kind_of q before with_lengths
       passes last u = record {
         grammar = refl;
@@ -133,7 +134,7 @@ module _ (p : Plan) (w : Sound p) where
       declared_reads : Reads 3 3 (tabbed (bytes "U" ∷ decimal t ∷ decimal n ∷ decimal (length_of p t n) ∷ [])) q (before t (suc n))
       unfolding kind_of bytes
       declared_reads =
-          reads_fields 3 (bytes "U") (decimal t ∷ decimal n ∷ decimal (length_of p t n) ∷ []) q (before t (suc n)) (Uses t n (length_of p t n))
+          reads_fields 3 (bytes "U") (decimal t ∷ decimal n ∷ decimal (length_of p t n) ∷ []) q (before t (suc n)) (Some (Uses t n (length_of p t n)))
           (omega arith)
           (decimal_plain t, (decimal_plain n, (decimal_plain (length_of p t n), tt)))
           (use_line t n (length_of p t n) (omega (arith, w.owners_fit.few)) (omega arith) small)
@@ -141,7 +142,7 @@ module _ (p : Plan) (w : Sound p) where
           passes
           next
         where
-          next : with_line q (Uses t n (length_of p t n)) ≡ before t (suc n)
+          next : with_line q (Some (Uses t n (length_of p t n))) ≡ before t (suc n)
           next = unfold with_line with_use q before with_lengths entered in refl
 
     -- an undeclared pair has no line and keeps its mark

@@ -2,7 +2,7 @@
 use mathlib.Core.Path.{◌≡◌, refl, ap, ◌∙◌}
 use mathlib.Core.Bool.{Bool, true, false, not, ◌&&◌, ◌||◌}
 use mathlib.Core.List.{List}
-use Prim.Native.Nat.{ℕ, ◌-◌, ◌<◌}
+use Prim.Native.Nat.{ℕ, ◌-◌, ◌≤◌, ◌<◌}
 use native.Mathlib.Omega.{arith}
 use native.Mathlib.Nat.{lt_of_lt_of_le}
 use lib.Dec.{leb, ltb, eqb}
@@ -10,7 +10,7 @@ use lib.ListN.{get_or}
 use borrow.Author.Tests.{ltb-true, leb-true}
 use Rattle.below.specs.Below.{all}
 use Rattle.below.specs.Listed.{listed}
-use Rattle.below.proofs.Tests.{and_left, and_right}
+use Rattle.below.proofs.Tests.{conjuncts}
 use Rattle.below.proofs.Search.{all_at, all_agree}
 use Rattle.below.proofs.Listed.{get_or_listed}
 use Rattle.plan.specs.declared.Plan.{Plan}
@@ -21,10 +21,6 @@ use Rattle.state.specs.declared.State.{State}
 use Rattle.state.specs.State.{task_at, held_at, last_held, in_section}
 use Rattle.legal.specs.Legal.{implies, held_legal, active_before, locals_legal, globals_legal, below_section, sections_legal}
 use Rattle.legal.specs.Parts.{below_row, below_held, first_held, ordered, apart, apart_from}
-
-first_of : (a b c d : Bool) → (a && b && c && d) ≡ true → a ≡ true
-first_of true b c d e = refl
-first_of false b c d e = e
 
 module _ (p : Plan) (s : State) (ceilings : List ℕ) (a : Accepted p) (e : ceilings ≡ listed 16 (ceiling p)) where
   ceiling_at : (x : ℕ) → x < p.resources → get_or ceilings x 0 ≡ ceiling p x
@@ -43,7 +39,8 @@ module _ (p : Plan) (s : State) (ceilings : List ℕ) (a : Accepted p) (e : ceil
     unfolding held_legal
     held_there k i h l =
         let t = task_at s k in
-        ltb-true (held_at t i) p.resources (first_of (ltb (held_at t i) p.resources) _ _ _ (all_at t.count _ (held k h) i l))
+        let e = all_at t.count _ (held k h) i l in
+        ltb-true (held_at t i) p.resources (search conjuncts)
 
     -- the conditions that look ceilings up
 
@@ -71,8 +68,8 @@ module _ (p : Plan) (s : State) (ceilings : List ℕ) (a : Accepted p) (e : ceil
     unfolding in_section last_held
     section_ceiling_lem k h e' =
         let t = task_at s k in
-        let l = leb-true 1 t.count (and_left (leb 1 t.count) (is_global p (held_at t (t.count - 1))) e') in
-        global_at (held_at t (t.count - 1)) (held_there k (t.count - 1) h (omega arith)) (and_right (leb 1 t.count) (is_global p (held_at t (t.count - 1))) e')
+        let l : 1 ≤ t.count = leb-true 1 t.count (search conjuncts) in
+        global_at (held_at t (t.count - 1)) (held_there k (t.count - 1) h (omega arith)) (search conjuncts)
 
     apart_is : (j k : ℕ) → j < p.tasks → k < p.tasks → apart p ceilings s j k ≡ sections_legal p s j k
     unfolding apart sections_legal implies below_section

@@ -1,6 +1,6 @@
 -- The order in which a legal state is tested, with ceilings out of a list, gives what the definition says.
 use mathlib.Core.Path.{◌≡◌, refl, ap, ◌∙◌}
-use mathlib.Core.Bool.{Bool, true, false, ◌&&◌, false≢true}
+use mathlib.Core.Bool.{Bool, true, false, ◌&&◌, and_assoc}
 use mathlib.Core.List.{List}
 use Prim.Native.Nat.{ℕ, ◌<◌}
 use native.Mathlib.Nat.{lt_of_lt_of_le}
@@ -8,6 +8,7 @@ use lib.Dec.{leb, ltb}
 use borrow.Author.Tests.{lt-ltb}
 use Rattle.below.specs.Below.{all}
 use Rattle.below.specs.Listed.{listed}
+use Rattle.below.proofs.Tests.{conjuncts}
 use Rattle.below.proofs.Search.{all_at, all_agree, all_both}
 use Rattle.plan.specs.declared.Plan.{Plan}
 use Rattle.plan.specs.Limits.{most_subsystems, most_tasks}
@@ -22,25 +23,9 @@ use Rattle.legal.specs.Parts.{counts_fit, alone_legal, task_fits, ordered, apart
 use Rattle.legal.proofs.CodeSplit.{present_rest}
 use Rattle.legal.proofs.CodeCeilings.{ordered_is, apart_from_is}
 
-second : (a b c d e : Bool) → (a && b && c && d && e) ≡ true → b ≡ true
-second true true c d e q = refl
-second true false c d e q = q
-second false b c d e q = absurd (false≢true q)
-
 -- what is asked of a present task besides
 together : Plan → State → ℕ → Bool
 together p s k = section_legal p s k && (locals_legal p s k && globals_legal p s k) && all p.tasks (sections_legal p s k)
-
-regrouped : (b x l g a : Bool) → (b && x && l && g && a) ≡ (b && (x && (l && g) && a))
-regrouped true true l g a = refl
-regrouped true false l g a = refl
-regrouped false x l g a = refl
-
-flat : (c f x o a : Bool) → (c && (f && x) && (o && a)) ≡ (c && (f && (x && o && a)))
-flat true true true o a = refl
-flat true true false o a = refl
-flat true false x o a = refl
-flat false f x o a = refl
 
 module _ (p : Plan) (s : State) (a : Accepted p) where
   subsystems_split : all most_subsystems (subsystem_legal p s) ≡ (all most_subsystems (counts_fit p s) && all p.subsystems (unused_legal p s))
@@ -50,8 +35,7 @@ module _ (p : Plan) (s : State) (a : Accepted p) where
   task_regrouped : (k : ℕ) → task_legal p s k
       ≡ (implies (ltb k p.tasks) (alone_legal p k (task_at s k) && together p s k) && implies (leb p.tasks k) (absent_task (task_at s k)))
   unfolding task_legal alone_legal together
-  task_regrouped k = ap (λ (b : Bool). implies (ltb k p.tasks) b && implies (leb p.tasks k) (absent_task (task_at s k)))
-      (regrouped (alone_legal p k (task_at s k)) (section_legal p s k) (locals_legal p s k) (globals_legal p s k) (all p.tasks (sections_legal p s k)))
+  task_regrouped k = simp and_assoc
 
   together_split : all p.tasks (together p s)
       ≡ (all p.tasks (section_legal p s) && all p.tasks (λ k. locals_legal p s k && globals_legal p s k) && all p.tasks (λ k. all p.tasks (sections_legal p s k)))
@@ -70,8 +54,9 @@ module _ (p : Plan) (s : State) (ceilings : List ℕ) (a : Accepted p) (e : ceil
   -- what is held is there, from what is asked of each task by itself
   fits_held : all most_tasks (task_fits p s) ≡ true → (k : ℕ) → k < p.tasks → held_legal p k (task_at s k) ≡ true
   unfolding task_fits implies alone_legal
-  fits_held e' k h = second (well_written (task_at s k)) (held_legal p k (task_at s k)) _ _ _
-      (rw (lt-ltb k p.tasks h) at (all_at most_tasks (task_fits p s) e' k (lt_of_lt_of_le h a.tasks_most)))
+  fits_held e' k h =
+      let t = rw (lt-ltb k p.tasks h) at (all_at most_tasks (task_fits p s) e' k (lt_of_lt_of_le h a.tasks_most)) in
+      search conjuncts
 
   rest_by : (all most_tasks (task_fits p s) && (all p.tasks (section_legal p s) && all p.tasks (ordered p ceilings s) && all p.tasks (apart_from p ceilings s)))
       ≡ (all most_tasks (task_fits p s) && all p.tasks (together p s))
@@ -88,11 +73,7 @@ module _ (p : Plan) (s : State) (ceilings : List ℕ) (a : Accepted p) (e : ceil
 
   by_list : (subsystems_pass p s && tasks_pass p s && order_pass p ceilings s) ≡ legal p s
   unfolding subsystems_pass tasks_pass order_pass legal
-  by_list =
-      flat (all most_subsystems (counts_fit p s) && all p.subsystems (unused_legal p s)) (all most_tasks (task_fits p s)) (all p.tasks (section_legal p s))
-      (all p.tasks (ordered p ceilings s)) (all p.tasks (apart_from p ceilings s))
-      ∙ rw (subsystems_split p s a, tasks_split p s a)
-      (ap (λ (b : Bool). all most_subsystems (counts_fit p s) && all p.subsystems (unused_legal p s) && b) rest_by)
+  by_list = rw (subsystems_split p s a, tasks_split p s a, ← rest_by) (simp and_assoc)
 
 pub legal_tested : (p : Plan) (ceilings : List ℕ) (s : State) → accepted p ≡ true → ceilings ≡ listed 16 (ceiling p)
     → (subsystems_pass p s && tasks_pass p s && order_pass p ceilings s) ≡ legal p s

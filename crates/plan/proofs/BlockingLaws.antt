@@ -1,10 +1,5 @@
 -- "Admission": B is at least each declared length of a later row.
-use mathlib.Core.Path.{◌≡◌}
-use mathlib.Core.Bool.{true}
-use Prim.Native.Nat.{ℕ, ◌≤◌, ◌<◌}
-use native.Mathlib.Nat.{le_refl}
-use native.Mathlib.Omega.{arith}
-use borrow.Author.Tests.{le-leb}
+use Rattle.std.proofs.Common.{◌≡◌, true, ℕ, ◌≤◌, ◌<◌, le_refl, arith, le-leb}
 use Rattle.below.proofs.Amounts.{greatest_over}
 use Rattle.plan.specs.declared.Plan.{Plan}
 use Rattle.plan.specs.Plan.{owner, is_global, length_of, declares, level}

@@ -1,14 +1,7 @@
 -- The signed difference of two numbers.
-use mathlib.Core.Path.{◌≡◌, ap₂, ◌∙◌}
-use mathlib.Core.Bool.{Bool, true, false, cond}
-use Prim.Native.Nat.{ℕ, zero, suc, ◌-◌, ◌^◌, ◌<◌}
-use native.Mathlib.Omega.{arith}
-use lib.Dec.{ltb}
-use lib.IntN.{pos, negsuc, ◌-ℤ◌}
+use Rattle.std.proofs.Common.{◌≡◌, ap₂, ◌∙◌, Bool, true, false, cond, ℕ, zero, suc, ◌-◌, ◌^◌, ◌<◌, arith, ltb, pos, negsuc, ◌-ℤ◌, w64, SFits, to_z, of_z, to_z-of_z}
 use lib.Signed.{mag}
-use mir.Syntax.{w64}
-use mir.Val.{SFits, to_z, of_z}
-use mir.Facts.{to_z_pos, to_z-of_z}
+use mir.Facts.{to_z_pos}
 
 -- A difference of two numbers is no further from 0 than they are.
 difference : (n a b : ℕ) → a < n → b < n → mag (pos a -ℤ pos b) < n

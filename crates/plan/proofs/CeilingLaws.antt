@@ -1,9 +1,5 @@
 -- "Ceilings": a ceiling is at most each declarer.
-use mathlib.Core.Path.{◌≡◌, refl}
-use mathlib.Core.Bool.{true, false}
-use Prim.Native.Nat.{ℕ, ◌≤◌, ◌<◌}
-use native.Mathlib.Omega.{arith}
-use borrow.Author.Tests.{eq-eqb}
+use Rattle.std.proofs.Common.{◌≡◌, refl, true, false, ℕ, ◌≤◌, ◌<◌, arith, eq-eqb}
 use Rattle.below.proofs.Search.{any_of, first_most}
 use Rattle.below.proofs.Tests.{and_of}
 use Rattle.plan.specs.declared.Plan.{Plan}

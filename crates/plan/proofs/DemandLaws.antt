@@ -1,12 +1,5 @@
 -- "Admission": in one period of a row there is room for its blocking and for all that the rows at least as high, itself among them, can want.
-use mathlib.Core.Path.{◌≡◌, refl, ap, ◌∙◌}
-use mathlib.Core.Logic.{◌≢◌, ◌⊎◌, inl, inr}
-use mathlib.Core.Bool.{Bool, true, false, cond}
-use Prim.Native.Nat.{ℕ, ◌+◌, ◌-◌, ◌*◌, ◌≤◌, ◌<◌}
-use native.Mathlib.Nat.{eq-or-lt_of_le}
-use native.Mathlib.Omega.{arith}
-use lib.Dec.{leb, ltb, eqb}
-use borrow.Author.Tests.{leb-true, lt-ltb, eq-eqb, ne_eqb}
+use Rattle.std.proofs.Common.{◌≡◌, refl, ap, ◌∙◌, ◌≢◌, ◌⊎◌, inl, inr, Bool, true, false, cond, ℕ, ◌+◌, ◌-◌, ◌*◌, ◌≤◌, ◌<◌, eq-or-lt_of_le, arith, leb, ltb, eqb, leb-true, lt-ltb, eq-eqb, ne_eqb}
 use Rattle.below.specs.Below.{sum}
 use Rattle.below.specs.Quotient.{rounded_up}
 use Rattle.below.proofs.Amounts.{sum_rises, sum_plus, sum_only}

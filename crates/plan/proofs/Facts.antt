@@ -1,13 +1,7 @@
 -- The test of an accepted plan and its facts with names, each from the other: the conditions of "The plan text", and "Admission".
-use mathlib.Core.Path.{◌≡◌, refl, sym}
-use mathlib.Core.Logic.{◌⊎◌, inl, inr}
-use mathlib.Core.Bool.{Bool, true, false, not, ◌||◌, and-false, or-false, or-true}
-use Prim.Native.Nat.{ℕ, ◌≤◌, ◌<◌}
-use native.Mathlib.Nat.{le_of_eq}
-use native.Mathlib.Omega.{arith}
-use lib.Dec.{leb, ltb, eqb}
-use lib.ListN.{get_or}
-use borrow.Author.Tests.{leb-true, leb-false, ltb-false, eqb-true, lt-ltb, le-ltb, lt-leb, le-leb, eq-eqb}
+use Rattle.std.proofs.Common.{◌≡◌, refl, sym, ◌⊎◌, inl, inr, Bool, true, false, not, ◌||◌, ℕ, ◌≤◌, ◌<◌, le_of_eq, arith, leb, ltb, eqb, get_or, leb-true, leb-false, ltb-false, eqb-true, lt-ltb, le-ltb, le-leb, eq-eqb}
+use mathlib.Core.Bool.{and-false, or-false, or-true}
+use borrow.Author.Tests.{lt-leb}
 use Rattle.below.specs.Below.{all}
 use Rattle.below.proofs.Search.{all_at, all_of, first_before, first_absent}
 use Rattle.below.proofs.Tests.{decided, conjuncts, or_else}

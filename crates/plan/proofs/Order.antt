@@ -1,9 +1,5 @@
 -- "The plan text": laws of the two orders, the level of a subsystem and which task is taken before which.
-use mathlib.Core.Path.{◌≡◌}
-use mathlib.Core.Bool.{Bool, true, false}
-use Prim.Native.Nat.{ℕ, ◌≤◌, ◌<◌}
-use native.Mathlib.Omega.{arith}
-use borrow.Author.Tests.{ltb-false, le-ltb}
+use Rattle.std.proofs.Common.{◌≡◌, Bool, true, false, ℕ, ◌≤◌, ◌<◌, arith, ltb-false, le-ltb}
 use Rattle.below.proofs.Search.{first_passes, first_before, first_most}
 use Rattle.plan.specs.declared.Plan.{Plan}
 use Rattle.plan.specs.Plan.{level, highest, taken_before, foremost}

@@ -25,7 +25,7 @@ impl Plan {
     fn blocking_at(&self, s: u8, t: u8, r: u8) -> u16
         ensures { result ≡ blocking_at self.now s t r }
     {
-        if self.is_global(r) && self.declares(t, r) && s <= self.owner(t) {
+        if s <= self.owner(t) && self.is_global(r) && self.declares(t, r) {
             self.length(t, r)
         } else {
             0

@@ -55,11 +55,7 @@ impl Plan {
     pub fn ceilings(&self) -> [u8; 16]
         ensures { result ≡ listed 16 (ceiling self.now) }
     {
-        let mut all = [0u8; 16];
-        for r in 0..16u8 {
-            all[r as usize] = self.ceiling(r);
-        }
-        all
+        std::array::from_fn(|r| self.ceiling(r as u8))
     }
 
     // The plan beside them.

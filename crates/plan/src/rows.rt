@@ -21,7 +21,7 @@ impl Plan {
         let period = self.period(s);
         let budget = self.budget(s);
         if s < self.subsystems {
-            1 <= period && period <= 10000 && 1 <= budget && budget <= period
+            (1..=10000).contains(&period) && (1..=period).contains(&budget)
         } else {
             period == 0 && budget == 0
         }

@@ -14,7 +14,7 @@ impl Plan {
     {
         let length = self.length(t, r);
         if self.is_global(r) {
-            1 <= length && length <= 10000 && length <= self.budget(self.owner(t))
+            (1..=10000).contains(&length) && length <= self.budget(self.owner(t))
         } else {
             length == 0
         }

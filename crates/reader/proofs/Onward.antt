@@ -2,7 +2,6 @@
 use mathlib.Core.Path.{◌≡◌, refl, sym, ap, ◌∙◌}
 use mathlib.Core.Bool.{true, false}
 use mathlib.Core.List.{List, [], ◌∷◌}
-use Rattle.std.proofs.Common.{None, Some}
 use Prim.Native.Nat.{ℕ, suc, ◌+◌, ◌-◌, ◌≤◌, ◌<◌}
 use native.Mathlib.Omega.{arith}
 use lib.ListN.{length, take, drop, length-drop, drop_of_length-le}
@@ -13,24 +12,24 @@ use Rattle.text.proofs.Lines.{lines_feed, lines_whole, body_feed, body_whole}
 use Rattle.plan.specs.declared.Plan.{Plan}
 use Rattle.reader.specs.declared.Verdict.TheVariants.{Accepted, NotGrammar}
 use Rattle.reader.specs.declared.Line.{Line}
-use Rattle.reader.specs.declared.Line.TheVariants.{Malformed}
 use Rattle.reader.specs.Numbers.{is_accepted}
 use Rattle.reader.specs.Line.{of_fields, line_of, kind_of}
 use Rattle.reader.specs.Conditions.{not_grammar}
 use Rattle.reader.specs.Reading.{judged, with_line, refused, read_from}
 use Rattle.reader.proofs.Judged.{judged_grammar}
+use Rattle.std.proofs.Common.{Option, Some, None}
 
 -- a line with its line feed is read as its body is, one without as nothing
 line_ended : (l : List ℕ) {b : List ℕ} → body l ≡ Some b → line_of l ≡ of_fields (fields b)
 unfolding line_of
 line_ended l e = rw (line_of, e)
 
-line_unended : (l : List ℕ) → body l ≡ None → line_of l ≡ Malformed
+line_unended : (l : List ℕ) → body l ≡ None → line_of l ≡ None
 unfolding line_of
 line_unended l e = rw (line_of, e)
 
 -- the first line decides whether there is a next
-module _ (l : List ℕ) (ls : List (List ℕ)) (n last : ℕ) (p : Plan) {x : Line} (e : line_of l ≡ x) where
+module _ (l : List ℕ) (ls : List (List ℕ)) (n last : ℕ) (p : Plan) {x : Option Line} (e : line_of l ≡ x) where
   read_bad : is_accepted (judged p last n x) ≡ false → read_from (l ∷ ls) n last p ≡ refused (judged p last n x)
   unfolding read_from
   read_bad a = rw (read_from, e, a) (rw e)
@@ -42,15 +41,15 @@ module _ (l : List ℕ) (ls : List (List ℕ)) (n last : ℕ) (p : Plan) {x : Li
 -- as the code has it: the line at a place ends at the line feed that was found
 module _ (text : List ℕ) (at end : ℕ) (e : end ≡ at + until line_feed (drop at text)) (n last : ℕ) (p : Plan) where
   pub read_unended : at < length text → length text ≤ end → read_from (lines (drop at text)) n last p ≡ refused (NotGrammar n)
-  unfolding not_grammar kind_of is_accepted
+  unfolding not_grammar is_accepted
   read_unended h u =
       let s = length-drop at text in
       let w = whole line_feed (drop at text) (omega arith) in
-      let j = judged_grammar p last n Malformed refl in
+      let j = judged_grammar p last n None refl in
       rw (lines_whole (omega arith) w)
       (read_bad (drop at text) [] n last p (line_unended (drop at text) (body_whole w)) (ap is_accepted j) ∙ ap refused j)
 
-  module _ (u : end < length text) {x : Line} (f : x ≡ of_fields (fields (take (end - at) (drop at text)))) where
+  module _ (u : end < length text) {x : Option Line} (f : x ≡ of_fields (fields (take (end - at) (drop at text)))) where
     abbrev line : List ℕ
     line = take (suc (until line_feed (drop at text))) (drop at text)
 
@@ -69,6 +68,12 @@ module _ (text : List ℕ) (at end : ℕ) (e : end ≡ at + until line_feed (dro
 
     pub read_refused : is_accepted (judged p last n x) ≡ false → read_from (lines (drop at text)) n last p ≡ refused (judged p last n x)
     read_refused a = rw lines_at (read_bad line _ n last p line_at a)
+
+    pub read_malformed : x ≡ None → read_from (lines (drop at text)) n last p ≡ refused (NotGrammar n)
+    unfolding not_grammar is_accepted
+    read_malformed z =
+        let j = judged_grammar p last n x (rw z) in
+        read_refused (ap is_accepted j) ∙ ap refused j
 
     pub read_onward : is_accepted (judged p last n x) ≡ true
         → read_from (lines (drop at text)) n last p ≡ read_from (lines (drop (end + 1) text)) (n + 1) (kind_of x) (with_line p x)

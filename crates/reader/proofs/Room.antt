@@ -12,11 +12,12 @@ use Rattle.plan.specs.Plan.{is_global}
 use Rattle.reader.specs.declared.Verdict.{Verdict}
 use Rattle.reader.specs.declared.Verdict.TheVariants.{Accepted, TooLong, NotGrammar, KindOrder, TooManyRows, NoSuchRow, OutOfRange, Twice, TwoSubsystems, AboveBudget, NoSubsystem, NegativeMargin}
 use Rattle.reader.specs.declared.Line.{Line}
-use Rattle.reader.specs.declared.Line.TheVariants.{Subsystem, Task, Resource, Uses, Malformed}
+use Rattle.reader.specs.declared.Line.TheVariants.{Subsystem, Task, Resource, Uses}
 use Rattle.reader.specs.Numbers.{is_accepted}
 use Rattle.reader.specs.Conditions.{too_many_rows, no_such_row, out_of_range}
 use Rattle.reader.specs.Reading.{empty_plan, first_of, judged, with_subsystem, with_task, with_resource, with_use, with_line}
 use Rattle.reader.specs.Room.{Counts, Room}
+use Rattle.std.proofs.Common.{Option, Some, None}
 
 pub accepted_is : (v : Verdict) → is_accepted v ≡ true → v ≡ Accepted
 unfolding is_accepted
@@ -40,12 +41,12 @@ unfolding first_of is_accepted
 first_passed true v ts r e = absurd (true≢false (sym (ap is_accepted e) ∙ r))
 first_passed false v ts r e = (refl, e)
 
-record Passed (p : Plan) (l : Line) : Type 0 where
+record Passed (p : Plan) (l : Option Line) : Type 0 where
   pub left : too_many_rows p l ≡ false
   pub there : no_such_row p l ≡ false
   pub fits : out_of_range p l ≡ false
 
-passed : (p : Plan) (last n : ℕ) (l : Line) → judged p last n l ≡ Accepted → Passed p l
+passed : (p : Plan) (last n : ℕ) (l : Option Line) → judged p last n l ≡ Accepted → Passed p l
 unfolding judged is_accepted
 passed p last n l e =
     let a = first_passed _ _ _ refl e in
@@ -63,32 +64,32 @@ within : (g : Bool) (n : ℕ) → cond g (leb 1 n && leb n longest) (eqb n 0) �
 within true n e = leb-true n longest ((and-eq-true_iff (leb 1 n) (leb n longest)).0 e).1
 within false n e = omega (arith, eqb-true n 0 e)
 
-room_of : (p : Plan) (l : Line) → Counts p → Passed p l → Room p l
+room_of : (p : Plan) (l : Option Line) → Counts p → Passed p l → Room p l
 unfolding too_many_rows no_such_row out_of_range
-room_of p (Subsystem period budget) c q =
+room_of p (Some (Subsystem period budget)) c q =
     let d = (and-eq-true_iff _ (leb budget period)).0 (not-false _ q.fits) in
     let b = (and-eq-true_iff _ (leb 1 budget)).0 d.0 in
     let a = (and-eq-true_iff (leb 1 period) (leb period longest)).0 b.0 in
     (leb-false 8 p.subsystems q.left, leb-true period longest a.1, omega (arith, leb-true period longest a.1, leb-true budget period d.1))
-room_of p (Task subsystem) c q =
+room_of p (Some (Task subsystem)) c q =
     (leb-false 32 p.tasks q.left, omega (arith, leb-false p.subsystems subsystem q.there))
-room_of p (Resource kind) c q = (leb-false 16 p.resources q.left, c.tasks)
-room_of p (Uses task resource length) c q =
+room_of p (Some (Resource kind)) c q = (leb-false 16 p.resources q.left, c.tasks)
+room_of p (Some (Uses task resource length)) c q =
     let r = neither _ _ q.there in
     (omega (arith, leb-false p.tasks task r.0), omega (arith, leb-false p.resources resource r.1), within (is_global p resource) length (not-false _ q.fits))
-room_of p Malformed c q = tt
+room_of p None c q = tt
 
-pub room : (p : Plan) (last n : ℕ) (l : Line) → Counts p → judged p last n l ≡ Accepted → Room p l
+pub room : (p : Plan) (last n : ℕ) (l : Option Line) → Counts p → judged p last n l ≡ Accepted → Room p l
 room p last n l c e = room_of p l c (passed p last n l e)
 
 pub counts_empty : Counts empty_plan
 unfolding empty_plan
 counts_empty = record { subsystems = omega arith; tasks = omega arith; resources = omega arith }
 
-pub counts_kept : (p : Plan) (l : Line) → Counts p → Room p l → Counts (with_line p l)
+pub counts_kept : (p : Plan) (l : Option Line) → Counts p → Room p l → Counts (with_line p l)
 unfolding with_line with_subsystem with_task with_resource with_use
-counts_kept p (Subsystem period budget) c r = omega arith
-counts_kept p (Task subsystem) c r = omega arith
-counts_kept p (Resource kind) c r = omega arith
-counts_kept p (Uses task resource length) c r = omega arith
-counts_kept p Malformed c r = c
+counts_kept p (Some (Subsystem period budget)) c r = omega arith
+counts_kept p (Some (Task subsystem)) c r = omega arith
+counts_kept p (Some (Resource kind)) c r = omega arith
+counts_kept p (Some (Uses task resource length)) c r = omega arith
+counts_kept p None c r = c

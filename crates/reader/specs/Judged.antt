@@ -6,8 +6,9 @@ use Rattle.reader.specs.declared.Verdict.TheVariants.{TooManyRows, NoSuchRow, Ou
 use Rattle.reader.specs.declared.Line.{Line}
 use Rattle.reader.specs.Conditions.{too_many_rows, no_such_row, out_of_range, twice, two_subsystems, above_budget}
 use Rattle.reader.specs.Reading.{first_of}
+use Rattle.std.specs.Prelude.{Option}
 
-unfoldable pub judged_rows : Plan → ℕ → Line → Verdict
+unfoldable pub judged_rows : Plan → ℕ → Option Line → Verdict
 judged_rows p n l =
     first_of
     ((too_many_rows p l, TooManyRows n)

@@ -1,8 +1,8 @@
--- A line made from two numbers, or malformed where there are not two.
-use Rattle.std.specs.Prelude.{ℕ, Option, Some, None}
+-- A line made from two numbers, or none where there are not two.
+use Rattle.std.specs.Prelude.{ℕ}
 use Rattle.reader.specs.declared.Line.{Line}
-use Rattle.reader.specs.declared.Line.TheVariants.{Malformed}
+use Rattle.std.specs.Prelude.{Option, Some, None}
 
-abbrev pub of_pair : (ℕ → ℕ → Line) → Option (ℕ × ℕ) → Line
+abbrev pub of_pair : (ℕ → ℕ → Option Line) → Option (ℕ × ℕ) → Option Line
 of_pair F (Some p) = F p.0 p.1
-of_pair F None = Malformed
+of_pair F None = None

@@ -8,11 +8,12 @@ use Rattle.plan.specs.Admission.{first_negative}
 use Rattle.reader.specs.declared.Verdict.{Verdict}
 use Rattle.reader.specs.declared.Verdict.TheVariants.{Accepted, TooLong, NotGrammar, KindOrder, TooManyRows, NoSuchRow, OutOfRange, Twice, TwoSubsystems, AboveBudget, NoSubsystem, NegativeMargin}
 use Rattle.reader.specs.declared.Line.{Line}
-use Rattle.reader.specs.declared.Line.TheVariants.{Subsystem, Task, Resource, Uses, Malformed}
+use Rattle.reader.specs.declared.Line.TheVariants.{Subsystem, Task, Resource, Uses}
 use Rattle.reader.specs.declared.Reading.{Reading}
 use Rattle.reader.specs.Numbers.{is_accepted}
 use Rattle.reader.specs.Line.{line_of, kind_of}
 use Rattle.reader.specs.Conditions.{not_grammar, kind_order, too_many_rows, no_such_row, out_of_range, twice, two_subsystems, above_budget}
+use Rattle.std.specs.Prelude.{Option, Some, None}
 
 -- a plan text is at most 16,384 bytes
 abbrev pub most_bytes : ℕ
@@ -38,7 +39,7 @@ first_of [] = Accepted
 first_of (t ∷ ts) = elim t.0 [ true ↦ t.1 | false ↦ first_of ts ]
 
 -- what is said of line n, after a line of the kind last, in the order of the table
-unfoldable pub judged : Plan → ℕ → ℕ → Line → Verdict
+unfoldable pub judged : Plan → ℕ → ℕ → Option Line → Verdict
 judged p last n l =
     first_of
     ((not_grammar l, NotGrammar n)
@@ -113,12 +114,12 @@ with_use p task resource length =
     }
 
 -- rows count from 0 in the order of their lines
-unfoldable pub with_line : Plan → Line → Plan
-with_line p (Subsystem period budget) = with_subsystem p period budget
-with_line p (Task subsystem) = with_task p subsystem
-with_line p (Resource kind) = with_resource p kind
-with_line p (Uses task resource length) = with_use p task resource length
-with_line p Malformed = p
+unfoldable pub with_line : Plan → Option Line → Plan
+with_line p (Some (Subsystem period budget)) = with_subsystem p period budget
+with_line p (Some (Task subsystem)) = with_task p subsystem
+with_line p (Some (Resource kind)) = with_resource p kind
+with_line p (Some (Uses task resource length)) = with_use p task resource length
+with_line p None = p
 
 -- a refusal comes with the plan of no line
 unfoldable pub refused : Verdict → Reading

@@ -3,7 +3,7 @@
     crate::specs::Reading::empty_plan, crate::specs::Reading::with_subsystem, crate::specs::Reading::with_task, crate::specs::Reading::with_resource,
     crate::specs::Reading::with_use, crate::specs::Reading::with_line, plan::specs::Plan::place
 ))]
-ghost use Rattle.std.specs.Prelude.{◌≡◌, ◌≤◌, ◌<◌, set};
+ghost use Rattle.std.specs.Prelude.{◌≡◌, ◌≤◌, ◌<◌, Some};
 ghost use Rattle.plan.specs.Limits.{most_subsystems, most_tasks, most_resources};
 ghost use Rattle.reader.specs.Reading.{empty_plan, opened, with_subsystem, with_task, with_resource, with_use, with_line};
 ghost use Rattle.reader.specs.Room.{Room};
@@ -80,8 +80,8 @@ fn with_use(p: &mut Plan, task: u32, resource: u32, ticks: u16)
 }
 
 pub fn with_line(p: &mut Plan, l: Line)
-    requires { Room p.old l }
-    ensures { p.new ≡ with_line p.old l }
+    requires { Room p.old (Some l) }
+    ensures { p.new ≡ with_line p.old (Some l) }
 {
     match l {
         Line::Subsystem { period, budget } => with_subsystem(p, period as u16, budget as u16),
@@ -92,6 +92,5 @@ pub fn with_line(p: &mut Plan, l: Line)
             resource,
             length,
         } => with_use(p, task, resource, length as u16),
-        Line::Malformed => {}
     }
 }

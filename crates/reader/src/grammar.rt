@@ -1,9 +1,8 @@
 // "The plan text", its table: one line, without its line feed.
-ghost use Rattle.std.specs.Prelude.{◌≡◌, ℕ};
-ghost use Rattle.std.specs.Option.{unwrap_or};
+ghost use Rattle.std.specs.Prelude.{◌≡◌, ℕ, Option, Some, None};
 ghost use Rattle.text.specs.Lines.{fields};
 ghost use Rattle.text.specs.Numbers.{of_one, of_two, of_three};
-ghost use Rattle.reader.specs.Line.{of_numbers, of_kind_field, of_fields, kind_of};
+ghost use Rattle.reader.specs.Line.{as_subsystem, as_task, as_uses, of_numbers, of_kind_field, of_fields, kind_of};
 ghost use Rattle.reader.specs.Pair.{of_pair};
 ghost use Rattle.reader.specs.declared.Line.{Line};
 
@@ -13,7 +12,7 @@ const TAB: u8 = 9;
 
 // Two numbers. What stands behind the first tab is the second field whole: one tab more, and it writes no number.
 fn pair_of(s: &[u8]) -> Option<(u32, u32)>
-    ensures { (F : ℕ → ℕ → Line) → of_pair F result ≡ of_numbers (of_two Line.Malformed F) (fields s.now) }
+    ensures { (F : ℕ → ℕ → Option Line) → of_pair F result ≡ of_numbers (of_two None F) (fields s.now) }
 {
     let m = text::find(s, 0, TAB);
     let rest = s.get(m + 1..)?;
@@ -24,7 +23,7 @@ fn pair_of(s: &[u8]) -> Option<(u32, u32)>
 
 // S
 fn subsystem_of(s: &[u8]) -> Option<Line>
-    ensures { unwrap_or result Line.Malformed ≡ of_numbers (of_two Line.Malformed Line.Subsystem) (fields s.now) }
+    ensures { result ≡ of_numbers (of_two None as_subsystem) (fields s.now) }
 {
     let (period, budget) = pair_of(s)?;
     Some(Line::Subsystem { period, budget })
@@ -32,7 +31,7 @@ fn subsystem_of(s: &[u8]) -> Option<Line>
 
 // T
 fn task_of(s: &[u8]) -> Option<Line>
-    ensures { unwrap_or result Line.Malformed ≡ of_numbers (of_one Line.Malformed Line.Task) (fields s.now) }
+    ensures { result ≡ of_numbers (of_one None as_task) (fields s.now) }
 {
     let subsystem = text::number_of(s)?;
     Some(Line::Task { subsystem })
@@ -40,7 +39,7 @@ fn task_of(s: &[u8]) -> Option<Line>
 
 // R: L is local, G global.
 fn resource_of(s: &[u8]) -> Option<Line>
-    ensures { unwrap_or result Line.Malformed ≡ of_kind_field (fields s.now) }
+    ensures { result ≡ of_kind_field (fields s.now) }
 {
     if s.len() != 1 {
         return None;
@@ -54,7 +53,7 @@ fn resource_of(s: &[u8]) -> Option<Line>
 
 // U
 fn uses_of(s: &[u8]) -> Option<Line>
-    ensures { unwrap_or result Line.Malformed ≡ of_numbers (of_three Line.Malformed Line.Uses) (fields s.now) }
+    ensures { result ≡ of_numbers (of_three None as_uses) (fields s.now) }
 {
     let m = text::find(s, 0, TAB);
     let rest = s.get(m + 1..)?;
@@ -68,8 +67,8 @@ fn uses_of(s: &[u8]) -> Option<Line>
 }
 
 // A letter and its fields. A line that is empty, or whose first field is not one byte, is nothing.
-fn lettered(s: &[u8]) -> Option<Line>
-    ensures { unwrap_or result Line.Malformed ≡ of_fields (fields s.now) }
+pub fn line_of(s: &[u8]) -> Option<Line>
+    ensures { result ≡ of_fields (fields s.now) }
 {
     if s.len() < 2 || s[1] != TAB {
         return None;
@@ -84,22 +83,15 @@ fn lettered(s: &[u8]) -> Option<Line>
     }
 }
 
-pub fn line_of(s: &[u8]) -> Line
-    ensures { result ≡ of_fields (fields s.now) }
-{
-    lettered(s).unwrap_or(Line::Malformed)
-}
-
 // The place of a line's kind in the order of the kinds.
 #[tactic(auto, unfolding(crate::specs::Line::kind_of))]
 pub fn kind_of(l: Line) -> u8
-    ensures { result ≡ kind_of l }
+    ensures { result ≡ kind_of (Some l) }
 {
     match l {
         Line::Subsystem { .. } => 0,
         Line::Task { .. } => 1,
         Line::Resource { .. } => 2,
         Line::Uses { .. } => 3,
-        Line::Malformed => 4,
     }
 }

@@ -4,7 +4,7 @@
     crate::specs::Conditions::not_grammar, crate::specs::Conditions::kind_order, crate::specs::Conditions::too_many_rows, crate::specs::Conditions::no_such_row,
     crate::specs::Conditions::out_of_range, crate::specs::Conditions::twice, crate::specs::Conditions::two_subsystems, crate::specs::Conditions::above_budget
 ))]
-ghost use Rattle.std.specs.Prelude.{◌≡◌, ℕ};
+ghost use Rattle.std.specs.Prelude.{◌≡◌, ℕ, Some};
 ghost use Rattle.reader.specs.Conditions.{out_of_range, two_subsystems, above_budget};
 ghost use Rattle.reader.specs.Reading.{judged};
 ghost use Rattle.reader.specs.Judged.{judged_rows};
@@ -15,7 +15,7 @@ use plan::Plan;
 
 // S
 fn judge_subsystem(p: &Plan, n: u32, period: u32, budget: u32) -> Verdict
-    ensures { result ≡ judged_rows p.now n (Line.Subsystem period budget) }
+    ensures { result ≡ judged_rows p.now n (Some (Line.Subsystem period budget)) }
 {
     if 8 <= p.subsystems {
         return Verdict::TooManyRows(n);
@@ -28,7 +28,7 @@ fn judge_subsystem(p: &Plan, n: u32, period: u32, budget: u32) -> Verdict
 
 // T
 fn judge_task(p: &Plan, n: u32, subsystem: u32) -> Verdict
-    ensures { result ≡ judged_rows p.now n (Line.Task subsystem) }
+    ensures { result ≡ judged_rows p.now n (Some (Line.Task subsystem)) }
 {
     if 32 <= p.tasks {
         return Verdict::TooManyRows(n);
@@ -41,7 +41,7 @@ fn judge_task(p: &Plan, n: u32, subsystem: u32) -> Verdict
 
 // R
 fn judge_resource(p: &Plan, n: u32, kind: u8) -> Verdict
-    ensures { result ≡ judged_rows p.now n (Line.Resource kind) }
+    ensures { result ≡ judged_rows p.now n (Some (Line.Resource kind)) }
 {
     if 16 <= p.resources {
         return Verdict::TooManyRows(n);
@@ -51,7 +51,7 @@ fn judge_resource(p: &Plan, n: u32, kind: u8) -> Verdict
 
 // 25: the length of a global resource is 1 to 10000, of a local one 0.
 fn out_of_range(p: &Plan, r: u8, length: u32) -> bool
-    ensures { (t : ℕ) → result ≡ out_of_range p.now (Line.Uses t r length) }
+    ensures { (t : ℕ) → result ≡ out_of_range p.now (Some (Line.Uses t r length)) }
 {
     if p.is_global(r) {
         length < 1 || 10000 < length
@@ -62,7 +62,7 @@ fn out_of_range(p: &Plan, r: u8, length: u32) -> bool
 
 // 27: a local resource that a task of another subsystem declared before.
 fn two_subsystems(p: &Plan, t: u8, r: u8) -> bool
-    ensures { (l : ℕ) → result ≡ two_subsystems p.now (Line.Uses t r l) }
+    ensures { (l : ℕ) → result ≡ two_subsystems p.now (Some (Line.Uses t r l)) }
 {
     let owner = p.owner(t);
     !p.is_global(r) && (0..p.tasks).any(|k| p.declares(k, r) && p.owner(k) != owner)
@@ -70,14 +70,14 @@ fn two_subsystems(p: &Plan, t: u8, r: u8) -> bool
 
 // 28: longer than the budget of the task's subsystem.
 fn above_budget(p: &Plan, t: u8, length: u32) -> bool
-    ensures { (r : ℕ) → result ≡ above_budget p.now (Line.Uses t r length) }
+    ensures { (r : ℕ) → result ≡ above_budget p.now (Some (Line.Uses t r length)) }
 {
     (p.budget(p.owner(t)) as u32) < length
 }
 
 // U
 fn judge_use(p: &Plan, n: u32, task: u32, resource: u32, length: u32) -> Verdict
-    ensures { result ≡ judged_rows p.now n (Line.Uses task resource length) }
+    ensures { result ≡ judged_rows p.now n (Some (Line.Uses task resource length)) }
 {
     if (p.tasks as u32) <= task || (p.resources as u32) <= resource {
         return Verdict::NoSuchRow(n);
@@ -101,7 +101,7 @@ fn judge_use(p: &Plan, n: u32, task: u32, resource: u32, length: u32) -> Verdict
 
 // 23 to 28, by the kind of the line.
 fn judge_rows(p: &Plan, n: u32, l: Line) -> Verdict
-    ensures { result ≡ judged_rows p.now n l }
+    ensures { result ≡ judged_rows p.now n (Some l) }
 {
     match l {
         Line::Subsystem { period, budget } => judge_subsystem(p, n, period, budget),
@@ -112,19 +112,14 @@ fn judge_rows(p: &Plan, n: u32, l: Line) -> Verdict
             resource,
             length,
         } => judge_use(p, n, task, resource, length),
-        Line::Malformed => Verdict::Accepted,
     }
 }
 
-// 21, then 22, then the others, over the plan read so far. last is the kind of the line before, n the number of this one.
+// 22, then the others, over the plan read so far. last is the kind of the line before, n the number of this one.
 pub fn judge(p: &Plan, last: u8, n: u32, l: Line) -> Verdict
-    ensures { result ≡ judged p.now last n l }
+    ensures { result ≡ judged p.now last n (Some l) }
 {
-    let kind = kind_of(l);
-    if kind == 4 {
-        return Verdict::NotGrammar(n);
-    }
-    if kind < last {
+    if kind_of(l) < last {
         return Verdict::KindOrder(n);
     }
     judge_rows(p, n, l)

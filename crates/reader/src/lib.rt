@@ -56,7 +56,6 @@ pub enum Line {
         resource: u32,
         length: u32,
     },
-    Malformed,
 }
 
 // What asking a plan text for the margin of a row answers.

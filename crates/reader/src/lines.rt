@@ -37,7 +37,9 @@ pub fn read_lines(text: &[u8]) -> Reading
         if text.len() <= end {
             return refuse(Verdict::NotGrammar(n));
         }
-        let l = line_of(&text[at..end]);
+        let Some(l) = line_of(&text[at..end]) else {
+            return refuse(Verdict::NotGrammar(n));
+        };
         let v = judge(&plan, last, n, l);
         if !is_accepted(v) {
             return refuse(v);

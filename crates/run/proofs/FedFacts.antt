@@ -13,22 +13,23 @@ use Rattle.below.proofs.Tests.{clash}
 use Rattle.text.specs.Lines.{line_feed, until, lines}
 use Rattle.text.proofs.Parted.{whole}
 use Rattle.plan.specs.declared.Plan.{Plan}
-use Rattle.step.specs.declared.Rows.{Rows}
-use Rattle.step.specs.Lent.{Lent}
+use Rattle.plan.specs.declared.CeiledPlan.{CeiledPlan}
 use Rattle.line.specs.Filled.{has_room, out_after}
+use Rattle.run.specs.declared.stream.Stream.{Stream}
 use Rattle.run.specs.declared.stream.Fed.{Fed}
+use Rattle.run.specs.Standing.{Stands}
 use Rattle.run.specs.Stream.{At, fed, fed_printed}
 use Rattle.run.specs.Fed.{Taken, at_of, taken_of, nothing, behind, lines_taken, piece_taken, first_line}
 use Rattle.run.proofs.KeptBytes.{take_length_take, none_of}
 use Rattle.run.proofs.Going.{fed_append, printed_append}
 use Rattle.run.proofs.TakenLines.{room_quiet, out_quiet}
 use Rattle.run.proofs.WholeLines.{printed_inside}
-use Rattle.run.proofs.FirstLines.{first_whole, first_some, first_within, lines_first, fed_lent}
+use Rattle.run.proofs.FirstLines.{first_whole, first_some, first_within, lines_first, fed_stands}
 use Rattle.run.proofs.LineLoop.{lines_room, lines_none}
 use Rattle.run.proofs.OutTwice.{room_twice, out_twice}
 
 -- the next line is whole in what is left of the piece, and its printed line has no room
-pub record Full (p : Plan) (x : At) (rest out : List ℕ) (fill : ℕ) : Type 0 where
+pub record Stuck (p : Plan) (x : At) (rest out : List ℕ) (fill : ℕ) : Type 0 where
   pub feed_there : until line_feed rest < length rest
   pub no_room : has_room out fill (fed_printed p x (first_line rest)) ≡ false
 
@@ -38,11 +39,11 @@ pub record FedFacts (p : Plan) (x : At) (piece out : List ℕ) (fill : ℕ) (t :
   pub room : has_room out fill (fed_printed p x (take t.bytes piece)) ≡ true
   pub filled : t.fill ≡ fill + length (fed_printed p x (take t.bytes piece))
   pub buffer : t.out ≡ out_after out fill (fed_printed p x (take t.bytes piece))
-  pub rest : t.bytes < length piece → Full p t.at (drop t.bytes piece) t.out t.fill
+  pub rest : t.bytes < length piece → Stuck p t.at (drop t.bytes piece) t.out t.fill
 
 module _ (p : Plan) (x : At) (piece out : List ℕ) (fill : ℕ) where
   -- nothing is taken, at the end or without room
-  stopped : (0 < length piece → Full p x piece out fill) → FedFacts p x piece out fill (nothing x out fill)
+  stopped : (0 < length piece → Stuck p x piece out fill) → FedFacts p x piece out fill (nothing x out fill)
   unfolding nothing fed fed_printed
   stopped f =
       record {
@@ -55,7 +56,7 @@ module _ (p : Plan) (x : At) (piece out : List ℕ) (fill : ℕ) where
       }
 
   -- a line without room has its line feed: without one nothing would be printed
-  full : 0 < length piece → has_room out fill (fed_printed p x (first_line piece)) ≡ false → Full p x piece out fill
+  full : 0 < length piece → has_room out fill (fed_printed p x (first_line piece)) ≡ false → Stuck p x piece out fill
   full h e = record { feed_there = go (ltb (until line_feed piece) (length piece)) refl; no_room = e }
     where
       go : (b : Bool) → ltb (until line_feed piece) (length piece) ≡ b → until line_feed piece < length piece
@@ -135,7 +136,7 @@ module _ (p : Plan) (x : At) (piece out : List ℕ) (fill : ℕ) where
       ∙ ap (λ (y : At). fed_printed p x (take t.bytes piece) ++ fed_printed p y (drop t.bytes piece)) (sym (piece_facts p x piece out fill).stands)
 
   -- a legal state stays legal: what came back may be fed again
-  pub piece_lent : (rows : Rows) (lengths : List ℕ) (r : Fed) (after : List ℕ) → taken_of r after ≡ t → Lent p x.state rows lengths → Lent p r.stream.state rows lengths
+  pub piece_stands : (c : CeiledPlan) → c.plan ≡ p → (s : Stream) (r : Fed) (after : List ℕ) → taken_of s r after ≡ t → Stands c x.state → Stands c s.state
   unfolding taken_of at_of
-  piece_lent rows lengths r after e L =
-      subst (λ (y : At). Lent p y.state rows lengths) (sym (ap (λ (u : Taken). u.at) e ∙ (piece_facts p x piece out fill).stands)) (fed_lent p rows lengths x (take t.bytes piece) L)
+  piece_stands c g s r after e S =
+      subst (λ (y : At). Stands c y.state) (sym (ap (λ (u : Taken). u.at) e ∙ (piece_facts p x piece out fill).stands ∙ ap (λ (q : Plan). fed q x (take t.bytes piece)) (sym g))) (fed_stands c x (take t.bytes piece) S)

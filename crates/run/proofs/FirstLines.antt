@@ -12,15 +12,12 @@ use borrow.Author.Tests.{ltb-true, ltb-false, eq-eqb}
 use Rattle.text.specs.Lines.{line_feed, until, lines}
 use Rattle.text.proofs.Parted.{Parted, parted, whole}
 use Rattle.text.proofs.Lines.{lines_feed, lines_whole}
-use Rattle.plan.specs.declared.Plan.{Plan}
-use Rattle.step.specs.declared.Rows.{Rows}
-use Rattle.step.specs.Lent.{Lent}
-use Rattle.line.specs.Filled.{has_room}
+use Rattle.plan.specs.declared.CeiledPlan.{CeiledPlan}
 use Rattle.line.specs.Run.{line_gives}
-use Rattle.run.specs.Stream.{At, keeping, is_going, line_done, fed_byte, fed, fed_printed}
-use Rattle.run.specs.Fed.{nothing, line_taken, first_line}
-use Rattle.run.proofs.LineSteps.{line_lent}
-use Rattle.run.proofs.TakenLines.{taken_room, taken_none}
+use Rattle.run.specs.Stream.{At, keeping, is_going, line_done, fed_byte, fed}
+use Rattle.run.specs.Fed.{first_line}
+use Rattle.run.specs.Standing.{Stands}
+use Rattle.run.proofs.LineSteps.{line_stands}
 
 -- the first separator of a front that reaches up to it
 parted_take : {b : ℕ} {t : List ℕ} {m : ℕ} → Parted b t m → Parted b (take (suc m) t) m
@@ -76,44 +73,36 @@ module _ (t : List ℕ) where
       go false e = rw (first_whole (ltb-false _ _ e), drop-length t) (lines_whole h (whole line_feed t (ltb-false _ _ e)))
 
 -- a legal state stays legal, whatever is fed
-module _ (p : Plan) (rows : Rows) (lengths : List ℕ) where
+module _ (c : CeiledPlan) where
   Stays : At → Type 0
-  Stays x = Lent p x.state rows lengths
+  Stays x = Stands c x.state
 
-  done_lent : (x : At) → Stays x → Stays (line_done p x)
+  done_stays : (x : At) → Stays x → Stays (line_done c.plan x)
   unfolding Stays line_done
-  done_lent x L = go (is_going x)
+  done_stays x S = go (is_going x)
     where
       go : (b : Bool)
           → Stays
           (elim b [
-            | true ↦ record { state = (line_gives p x.state x.kept).state; number = x.number + 1; kept = [] }
+            | true ↦ record { state = (line_gives c.plan x.state x.kept).state; number = x.number + 1; kept = [] }
             | false ↦ record { state = x.state; number = x.number; kept = [] }
           ])
-      go true = line_lent p x.state rows lengths L x.kept
-      go false = L
+      go true = line_stands c x.state S x.kept
+      go false = S
 
-  byte_lent : (x : At) (b : ℕ) → Stays x → Stays (fed_byte p x b)
+  byte_stays : (x : At) (b : ℕ) → Stays x → Stays (fed_byte c.plan x b)
   unfolding Stays fed_byte keeping
-  byte_lent x b L = go (eqb b line_feed)
+  byte_stays x b S = go (eqb b line_feed)
     where
-      go : (c : Bool) → Stays (elim c [ true ↦ line_done p (keeping x (b ∷ [])) | false ↦ keeping x (b ∷ []) ])
-      go true = done_lent (keeping x (b ∷ [])) L
-      go false = L
+      go : (c₁ : Bool) → Stays (elim c₁ [ true ↦ line_done c.plan (keeping x (b ∷ [])) | false ↦ keeping x (b ∷ []) ])
+      go true = done_stays (keeping x (b ∷ [])) S
+      go false = S
 
-  fed_stays : (x : At) (bs : List ℕ) → Stays x → Stays (fed p x bs)
+  fed_stays : (x : At) (bs : List ℕ) → Stays x → Stays (fed c.plan x bs)
   unfolding fed
-  fed_stays x [] L = L
-  fed_stays x (b ∷ bs) L = fed_stays (fed_byte p x b) bs (byte_lent x b L)
+  fed_stays x [] S = S
+  fed_stays x (b ∷ bs) S = fed_stays (fed_byte c.plan x b) bs (byte_stays x b S)
 
-  pub fed_lent : (x : At) (bs : List ℕ) → Lent p x.state rows lengths → Lent p (fed p x bs).state rows lengths
+  pub fed_stands : (x : At) (bs : List ℕ) → Stands c x.state → Stands c (fed c.plan x bs).state
   unfolding Stays
-  fed_lent x bs L = fed_stays x bs L
-
-  pub line_taken_lent : (x : At) (l out : List ℕ) (fill : ℕ) → Lent p x.state rows lengths → Lent p (line_taken p x l out fill).at.state rows lengths
-  unfolding line_taken nothing
-  line_taken_lent x l out fill L = go (has_room out fill (fed_printed p x l)) refl
-    where
-      go : (b : Bool) → has_room out fill (fed_printed p x l) ≡ b → Lent p (line_taken p x l out fill).at.state rows lengths
-      go true e = rw (taken_room x (fed p x l) (length l) (fed_printed p x l) out fill e) (fed_lent x l L)
-      go false e = rw (taken_none x (fed p x l) (length l) (fed_printed p x l) out fill e) L
+  fed_stands x bs S = fed_stays x bs S

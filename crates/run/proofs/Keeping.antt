@@ -11,7 +11,7 @@ use borrow.Author.Tests.{ltb-true, ltb-false}
 use Rattle.text.specs.Lines.{line_feed, lines, onto}
 use Rattle.text.proofs.Parted.{Whole}
 use Rattle.text.proofs.Lines.{body_whole}
-use Rattle.line.specs.declared.Event.TheVariants.{Malformed}
+use Rattle.std.specs.Prelude.{None}
 use Rattle.line.specs.Event.{event_of}
 use Rattle.line.proofs.Long.{long_line}
 use Rattle.run.specs.Stream.{most_kept}
@@ -33,7 +33,7 @@ whole_snoc x Whole.end e = Whole.on e Whole.end
 whole_snoc x (Whole.on f w) e = Whole.on f (whole_snoc x w e)
 
 -- they are no event
-pub no_event : {l : List ℕ} → Whole line_feed l → event_of l ≡ Malformed
+pub no_event : {l : List ℕ} → Whole line_feed l → event_of l ≡ None
 unfolding event_of
 no_event w = rw (event_of, body_whole w)
 

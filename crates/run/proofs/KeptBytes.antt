@@ -1,14 +1,16 @@
 -- Laws of the bytes that are kept of a line: how many there are, and how more are put behind them.
 use mathlib.Core.Path.{◌≡◌, refl, sym, ap, ◌∙◌}
 use mathlib.Core.Bool.{Bool, true, false}
-use mathlib.Core.List.{List, [], ◌∷◌, ◌++◌, append_assoc}
-use Prim.Native.Nat.{ℕ, zero, suc, ◌+◌, ◌-◌, ◌≤◌, ◌<◌, min}
-use native.Mathlib.Numerals.{add-one}
+use mathlib.Core.List.{List, [], ◌∷◌, ◌++◌}
+use Prim.Native.Nat.{ℕ, zero, suc, ◌+◌, ◌-◌, ◌≤◌, min}
 use native.Mathlib.Omega.{arith}
 use lib.Dec.{leb}
-use lib.ListN.{length, take, set, get_or, length-take}
-use lib.Seq.{take_all, take-suc, take-suc-set, take-append-add}
+use lib.ListN.{length, take, drop, length-take}
+use lib.Seq.{take_all, take-add, take-append-le, take-append-add, length-take-le}
 use borrow.Author.Tests.{leb-true, leb-false}
+use borrow.Rule.Slice.PartMut.{put_mid, post_of}
+use Rattle.std.proofs.Common.{drop_at}
+use Rattle.std.proofs.lemmas.Slice.{take-put_mid_below}
 
 -- a front taken by its own length
 pub take_length_take : (m : ℕ) (l : List ℕ) → take (length (take m l)) l ≡ take m l
@@ -35,13 +37,23 @@ kept_more b part m n count h e f =
     (ap (λ (j : ℕ). take j (take m b ++ part)) {x = 20} {y = length (take m b) + (20 - length (take m b))} (omega arith)
     ∙ take-append-add (take m b) part (20 - length (take m b))))
 
--- one byte more is written
-pub kept_next : (b b₀ part : List ℕ) (n i : ℕ) → n + i < length b → i < length part → take (n + i) b ≡ take n b₀ ++ take i part
-    → take (n + (i + 1)) (set b (n + i) (get_or part i 0)) ≡ take n b₀ ++ take (i + 1) part
-kept_next b b₀ part n i h l e =
-    ap (λ (j : ℕ). take j (set b (n + i) (get_or part i 0))) {x = n + (i + 1)} {y = suc (n + i)} (omega arith)
-    ∙ take-suc-set b (n + i) (get_or part i 0) h
-    ∙ rw (e, add-one, take-suc part i 0 l) (append_assoc (take n b₀) (take i part) (get_or part i 0 ∷ []))
+-- n bytes more at the start of some bytes, put behind the first a
+take-put_mid_more : (a k n : ℕ) (xs ys : List ℕ) → a ≤ length xs → n ≤ length ys → take (a + n) (put_mid a k xs ys) ≡ take a xs ++ take n ys
+take-put_mid_more a k n xs ys within fits =
+    take-add a n (put_mid a k xs ys)
+    ∙ ap (λ (l : List ℕ). l ++ take n (drop a (put_mid a k xs ys))) (take-put_mid_below a k xs ys a (omega arith) within)
+    ∙ ap (λ (l : List ℕ). take a xs ++ take n l) (drop_at (take a xs) (ys ++ post_of a k xs) a (length-take-le a xs within))
+    ∙ ap (λ (l : List ℕ). take a xs ++ l) (take-append-le n ys (post_of a k xs) fits)
+
+-- as many as there is room for
+pub kept_put : (b part ys : List ℕ) (m n count k : ℕ) → length b ≡ 20 → n ≡ length (take m b) → count ≡ min (length part) (20 - n) → ys ≡ take count part
+    → take (n + count) (put_mid n k b ys) ≡ take 20 (take m b ++ part)
+kept_put b part ys m n count k h e f g =
+    let w : n ≤ length b = omega (arith, length-take m b) in
+    let l : length ys ≡ count = rw g (length-take-le count part (omega arith)) in
+    take-put_mid_more n k count b ys w (omega arith)
+    ∙ ap (λ (t : List ℕ). take n b ++ t) (take_all count ys (omega arith) ∙ g)
+    ∙ kept_more b part m n count h e (omega arith)
 
 -- no bytes
 pub none_of : (l : List ℕ) → length l ≡ 0 → l ≡ []

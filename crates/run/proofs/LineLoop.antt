@@ -1,6 +1,6 @@
 -- The loop over the lines of a piece: what one turn changes, and where it stops.
-use mathlib.Core.Path.{◌≡◌, refl, sym, ap, subst, ◌∙◌}
-use mathlib.Core.Bool.{Bool, true, false}
+use mathlib.Core.Path.{◌≡◌, refl, sym, ap, ◌∙◌}
+use mathlib.Core.Bool.{true, false}
 use mathlib.Core.List.{List, ◌∷◌}
 use Prim.Native.Nat.{ℕ, ◌+◌, ◌≤◌}
 use native.Mathlib.Nat.{zero-add, add-zero, add_assoc}
@@ -9,14 +9,15 @@ use lib.ListN.{length, drop, drop_of_length-le}
 use lib.Seq.{drop-drop}
 use Rattle.text.specs.Lines.{lines}
 use Rattle.plan.specs.declared.Plan.{Plan}
-use Rattle.step.specs.declared.Rows.{Rows}
-use Rattle.step.specs.Lent.{Lent}
+use Rattle.plan.specs.declared.CeiledPlan.{CeiledPlan}
+use Rattle.std.specs.Prelude.{Some, None}
 use Rattle.line.specs.Filled.{has_room, out_after}
-use Rattle.run.specs.declared.stream.Fed.{Fed}
 use Rattle.run.specs.Stream.{At, fed, fed_printed}
-use Rattle.run.specs.Fed.{Taken, at_of, taken_of, nothing, behind, line_taken, lines_taken, from_place, piece_taken, first_line}
-use Rattle.run.proofs.TakenLines.{taken_room, taken_none}
-use Rattle.run.proofs.FirstLines.{first_some, lines_first, line_taken_lent}
+use Rattle.run.specs.declared.stream.Stream.{Stream}
+use Rattle.run.specs.Fed.{at_of, Taken, Put, nothing, behind, lines_taken, from_place, piece_taken, first_line}
+use Rattle.run.proofs.TakenLines.{was_put, was_full}
+use Rattle.run.specs.Standing.{Stands}
+use Rattle.run.proofs.FirstLines.{lines_first, fed_stands}
 
 -- lines taken, by the room of the first
 module _ (p : Plan) (x : At) (l : List ℕ) (ls : List (List ℕ)) (out : List ℕ) (fill : ℕ) where
@@ -28,28 +29,6 @@ module _ (p : Plan) (x : At) (l : List ℕ) (ls : List (List ℕ)) (out : List �
   pub lines_none : has_room out fill (fed_printed p x l) ≡ false → lines_taken p x (l ∷ ls) out fill ≡ nothing x out fill
   unfolding lines_taken
   lines_none e = rw (lines_taken, e)
-
-  -- by what came back of the first
-  module _ (r : Fed) (after : List ℕ) (e : taken_of r after ≡ line_taken p x l out fill) (some : 1 ≤ length l) where
-    pub turn_on : (r.taken ≡ 0 → ⊥) → lines_taken p x (l ∷ ls) out fill ≡ behind r.taken (lines_taken p (at_of r.stream) ls after r.fill)
-    unfolding line_taken taken_of nothing
-    turn_on h = go (has_room out fill (fed_printed p x l)) refl
-      where
-        go : (b : Bool) → has_room out fill (fed_printed p x l) ≡ b → lines_taken p x (l ∷ ls) out fill ≡ behind r.taken (lines_taken p (at_of r.stream) ls after r.fill)
-        go true t =
-            lines_room t
-            ∙ sym (ap (λ (y : Taken). behind y.bytes (lines_taken p y.at ls y.out y.fill)) (e ∙ taken_room x (fed p x l) (length l) (fed_printed p x l) out fill t))
-        go false t = absurd (h (ap (λ (y : Taken). y.bytes) (e ∙ taken_none x (fed p x l) (length l) (fed_printed p x l) out fill t)))
-
-    pub turn_stop : r.taken ≡ 0 → (lines_taken p x (l ∷ ls) out fill ≡ nothing x out fill) × (after ≡ out)
-    unfolding line_taken taken_of nothing
-    turn_stop h = go (has_room out fill (fed_printed p x l)) refl
-      where
-        go : (b : Bool) → has_room out fill (fed_printed p x l) ≡ b → (lines_taken p x (l ∷ ls) out fill ≡ nothing x out fill) × (after ≡ out)
-        go true t =
-            let k = ap (λ (y : Taken). y.bytes) (e ∙ taken_room x (fed p x l) (length l) (fed_printed p x l) out fill t) in
-            absurd (omega arith)
-        go false t = (lines_none t, ap (λ (y : Taken). y.out) (e ∙ taken_none x (fed p x l) (length l) (fed_printed p x l) out fill t))
 
 -- bytes taken before
 behind_again : (m n : ℕ) (t : Taken) → behind m (behind n t) ≡ behind (m + n) t
@@ -78,35 +57,35 @@ module _ (p : Plan) (x : At) (piece : List ℕ) (at : ℕ) (out : List ℕ) (fil
   unfolding from_place lines_taken lines
   place_end h = sym (rw (drop_of_length-le piece {i = at} h) here_is)
 
-  -- after a turn
-  module _ (some : 1 ≤ length (drop at piece)) (r : Fed) (after : List ℕ) (e : taken_of r after ≡ line_taken p x (first_line (drop at piece)) out fill) where
-    bytes_are : (r.taken ≡ 0 → ⊥) → r.taken ≡ length (first_line (drop at piece))
-    unfolding line_taken taken_of nothing
-    bytes_are h = go (has_room out fill (fed_printed p x (first_line (drop at piece)))) refl
-      where
-        go : (b : Bool) → has_room out fill (fed_printed p x (first_line (drop at piece))) ≡ b → r.taken ≡ length (first_line (drop at piece))
-        go true t = ap (λ (y : Taken). y.bytes) (e ∙ taken_room x _ _ (fed_printed p x (first_line (drop at piece))) out fill t)
-        go false t = absurd (h (ap (λ (y : Taken). y.bytes) (e ∙ taken_none x _ _ (fed_printed p x (first_line (drop at piece))) out fill t)))
+  -- the next line was put, or had no room
+  abbrev l : List ℕ
+  l = first_line (drop at piece)
 
-    pub place_on : (r.taken ≡ 0 → ⊥) → from_place p (at_of r.stream) piece (at + r.taken) after r.fill ≡ from_place p x piece at out fill
+  module _ (some : 1 ≤ length (drop at piece)) {z : At} {after : List ℕ} where
+    pub place_on : {n : ℕ} → Put x (fed p x l) (fed_printed p x l) out fill (Some n) z after
+        → from_place p z piece (at + length l) after n ≡ from_place p x piece at out fill
     unfolding from_place
-    place_on h =
-        sym
+    place_on w =
+        let h = was_put x (fed p x l) (fed_printed p x l) out fill w in
+        rw (h.1, h.2, h.3)
+        (sym
         (ap (λ ls. behind at (lines_taken p x ls out fill)) (lines_first (drop at piece) some)
-        ∙ ap (behind at) (turn_on p x _ _ out fill r after e (first_some (drop at piece) some) h)
-        ∙ behind_again at r.taken _
-        ∙ rw (← bytes_are h, drop-drop r.taken at piece))
+        ∙ ap (behind at) (lines_room p x l _ out fill h.0)
+        ∙ behind_again at (length l) _
+        ∙ rw (drop-drop (length l) at piece)))
 
-    pub place_stop : r.taken ≡ 0 → ◌≡◌ {A = Taken} (record { at = x; bytes = at; fill = fill; out = after }) (from_place p x piece at out fill)
+    pub place_stop : Put x (fed p x l) (fed_printed p x l) out fill None z after
+        → ◌≡◌ {A = Taken} (record { at = z; bytes = at; fill = fill; out = after }) (from_place p x piece at out fill)
     unfolding from_place
-    place_stop h =
-        let t = turn_stop p x (first_line (drop at piece)) (lines (drop (length (first_line (drop at piece))) (drop at piece))) out fill r after e (first_some (drop at piece) some) h in
-        ap (λ (o : List ℕ). record { at = x; bytes = at; fill = fill; out = o }) t.1
-        ∙ sym here_is
-        ∙ sym (ap (behind at) t.0)
-        ∙ sym (ap (λ ls. behind at (lines_taken p x ls out fill)) (lines_first (drop at piece) some))
+    place_stop w =
+        let h = was_full x (fed p x l) (fed_printed p x l) out fill w in
+        rw (h.1, h.2)
+        (sym here_is
+        ∙ sym (ap (behind at) (lines_none p x l (lines (drop (length l) (drop at piece))) out fill h.0))
+        ∙ sym (ap (λ ls. behind at (lines_taken p x ls out fill)) (lines_first (drop at piece) some)))
 
-  -- a legal state stays legal
-  pub turn_lent : (rows : Rows) (lengths l : List ℕ) (r : Fed) (after : List ℕ) → taken_of r after ≡ line_taken p x l out fill → Lent p x.state rows lengths → Lent p r.stream.state rows lengths
-  unfolding taken_of at_of
-  turn_lent rows lengths l r after e L = subst (λ (t : Taken). Lent p t.at.state rows lengths) (sym e) (line_taken_lent p rows lengths x l out fill L)
+-- a legal state stays legal
+pub turn_stands : (c : CeiledPlan) (x : At) (l t out : List ℕ) (fill : ℕ) {n : ℕ} (s : Stream) {after : List ℕ}
+    → Put x (fed c.plan x l) t out fill (Some n) (at_of s) after → Stands c x.state → Stands c s.state
+unfolding at_of
+turn_stands c x l t out fill s w S = rw (ap (λ (y : At). y.state) (was_put x (fed c.plan x l) t out fill w).2) (fed_stands c x l S)

@@ -1,97 +1,96 @@
--- Laws of one event line: what an unknown kind answers, what is given back with and without room, and that a legal state stays legal.
-use mathlib.Core.Path.{◌≡◌, refl, ap, ◌∙◌}
-use mathlib.Core.Bool.{Bool, true, false}
-use mathlib.Core.List.{List}
-use Prim.Native.Nat.{ℕ, ◌+◌, ◌≤◌}
-use native.Mathlib.Omega.{arith}
-use lib.ListN.{length}
+-- Laws of one event line: what an unknown kind answers, what is given back with room and without, and that a legal state stays legal.
+use Rattle.std.proofs.Common.{◌≡◌, ℕ, ◌+◌, ◌≤◌, Bool, true, false, List, length, refl, sym, ap, ◌∙◌, arith}
+use Rattle.std.specs.Prelude.{Option, Some, None, unwrap_or}
 use Rattle.plan.specs.declared.Plan.{Plan}
+use Rattle.plan.specs.declared.CeiledPlan.{CeiledPlan}
 use Rattle.state.specs.declared.State.{State}
 use Rattle.step.specs.declared.Outcome.{Outcome}
-use Rattle.step.specs.declared.Rows.{Rows}
+use Rattle.step.specs.declared.Answer.{Answer}
 use Rattle.step.specs.Refusals.{order_table, first_refusal, refusal}
 use Rattle.step.specs.Events.{answered}
-use Rattle.step.specs.Step.{done, stepped}
-use Rattle.step.specs.Lent.{Lent}
+use Rattle.step.specs.Step.{done, stepped, answer_of}
 use Rattle.step.proofs.Stepped.{stepped_legal, stepped_sized}
 use Rattle.line.specs.declared.Event.{Event}
-use Rattle.line.specs.declared.Event.TheVariants.{Known, Malformed}
-use Rattle.line.specs.declared.Filled.TheVariants.{Fill, NoRoom}
 use Rattle.line.specs.Event.{event_of}
 use Rattle.line.specs.Printed.{printed, answer_line}
 use Rattle.line.specs.Filled.{has_room, fill_after, out_after}
 use Rattle.line.specs.Run.{event_gives, line_gives}
 use Rattle.line.proofs.Spaced.{spaced_some}
 use Rattle.run.specs.declared.Lined.{Lined}
-use Rattle.run.specs.Lined.{lined_by, lined, lined_out}
+use Rattle.run.specs.Standing.{Stands}
+use Rattle.run.specs.Lined.{LinePut, lined_by, lined_state_by, lined, lined_state, lined_out}
+use Rattle.run.proofs.AsFarLaws.{has_room_lem, has_none}
 
 -- kind 5 is no kind
 pub unknown : (p : Plan) (s : State) (kind : ℕ) → kind ≡ 5 → stepped p s kind 0 0 ≡ answered p s 11
 unfolding stepped refusal first_refusal order_table done
 unknown p s kind e = rw e
 
--- what is given back: with room the outcome, without it nothing but 33
-module _ (s : State) (n : ℕ) (o : Outcome) (out : List ℕ) (fill : ℕ) where
-  -- with a line that has room up to m
-  Given : ℕ → Lined
-  Given m = record { number = o.answer; state = o.state; fill = m }
-
-  -- with one that has none
-  Kept : Lined
-  Kept = record { number = 33; state = s; fill = fill }
-
-  by_room : (m : ℕ) → Fill m ≡ fill_after out fill (printed n o) → Given m ≡ lined_by s n o out fill
-  unfolding lined_by fill_after Given Kept
-  by_room m e = go (has_room out fill (printed n o)) e
-    where
-      go : (b : Bool) → Fill m ≡ elim b [ true ↦ Fill (fill + length (printed n o)) | false ↦ NoRoom ]
-          → Given m ≡ elim b [ true ↦ Given (fill + length (printed n o)) | false ↦ Kept ]
-      go true t = let k : m ≡ fill + length (printed n o) = cc in ap Given k
-      go false t = let z : ◌≡◌ {A = ℕ} 0 1 = cc in absurd (omega arith)
-
-  by_none : NoRoom ≡ fill_after out fill (printed n o) → Kept ≡ lined_by s n o out fill
-  unfolding lined_by fill_after Given Kept
-  by_none e = go (has_room out fill (printed n o)) e
-    where
-      go : (b : Bool) → NoRoom ≡ elim b [ true ↦ Fill (fill + length (printed n o)) | false ↦ NoRoom ]
-          → Kept ≡ elim b [ true ↦ Given (fill + length (printed n o)) | false ↦ Kept ]
-      go true t = let z : ◌≡◌ {A = ℕ} 0 1 = cc in absurd (omega arith)
-      go false t = refl
-
--- the same of a line, where the outcome was printed
-module _ (p : Plan) (s : State) (n : ℕ) (line out : List ℕ) (fill : ℕ) {o : Outcome} (e : o ≡ line_gives p s line) {after : List ℕ} (f : after ≡ out_after out fill (printed n o)) where
-  there : after ≡ lined_out p s n line out fill
-  unfolding lined_out
-  there = f ∙ ap (λ x. out_after out fill (printed n x)) e
-
-  pub lined_room : {m : ℕ} → Fill m ≡ fill_after out fill (printed n o)
-      → ◌≡◌ {A = Lined} (record { number = o.answer; state = o.state; fill = m }) (lined p s n line out fill) × (after ≡ lined_out p s n line out fill)
-  unfolding lined Given
-  lined_room {m} t = (by_room s n o out fill m t ∙ ap (λ x. lined_by s n x out fill) e, there)
-
-  pub lined_none : NoRoom ≡ fill_after out fill (printed n o)
-      → ◌≡◌ {A = Lined} (record { number = 33; state = s; fill = fill }) (lined p s n line out fill) × (after ≡ lined_out p s n line out fill)
-  unfolding lined Kept
-  lined_none t = (by_none s n o out fill t ∙ ap (λ x. lined_by s n x out fill) e, there)
+-- what a line asks: the event that was read, or kind 5
+pub asked : (p : Plan) (s : State) (line : List ℕ) {o : Option Event} (e : Event) → o ≡ event_of line → e ≡ unwrap_or o (record { kind = 5; task = 0; resource = 0 })
+    → stepped p s e.kind e.task e.resource ≡ line_gives p s line
+unfolding line_gives event_gives
+asked p s line {o} e f g = rw (← f) (go o g)
+  where
+    go : (o : Option Event) → e ≡ unwrap_or o (record { kind = 5; task = 0; resource = 0 }) → stepped p s e.kind e.task e.resource ≡ event_gives p s o
+    go None q = rw q (unknown p s 5 refl)
+    go (Some a) q = rw q
 
 -- a legal state stays legal
-module _ (p : Plan) (s : State) (rows : Rows) (lengths : List ℕ) (L : Lent p s rows lengths) where
-  event_lent : (e : Event) → Lent p (event_gives p s e).state rows lengths
+module _ (c : CeiledPlan) (s : State) (S : Stands c s) where
+  event_stands : (e : Option Event) → Stands c (event_gives c.plan s e).state
   unfolding event_gives answered
-  event_lent (Known kind k r) =
+  event_stands (Some e) =
+      let L = S.lent in
       record {
-        accepted = L.accepted;
-        rows_of_plan = L.rows_of_plan;
-        sized = stepped_sized p s L.accepted L.sized L.legal kind k r;
-        legal = stepped_legal p s L.accepted L.sized L.legal kind k r;
+        lent = record {
+          accepted = L.accepted;
+          ceilings = L.ceilings;
+          legal = stepped_legal c.plan s L.accepted S.sized L.legal e.kind e.task e.resource;
+        };
+        sized = stepped_sized c.plan s L.accepted S.sized L.legal e.kind e.task e.resource;
       }
-  event_lent Malformed = L
+  event_stands None = S
 
-  pub line_lent : (line : List ℕ) → Lent p (line_gives p s line).state rows lengths
+  pub line_stands : (line : List ℕ) → Stands c (line_gives c.plan s line).state
   unfolding line_gives
-  line_lent line = event_lent (event_of line)
+  line_stands line = event_stands (event_of line)
 
 -- a printed line is never empty
 pub printed_some : (n : ℕ) (o : Outcome) → 1 ≤ length (printed n o)
 unfolding printed answer_line
 printed_some n o = spaced_some _
+
+-- a line whose event was stepped and whose answer was printed
+module _ (p : Plan) (s : State) (n : ℕ) (line out : List ℕ) (fill : ℕ) {a : Answer} {next : State} {r : Option ℕ} {after : List ℕ}
+    (e : a ≡ answer_of (line_gives p s line)) (f : next ≡ (line_gives p s line).state)
+    (g : (r ≡ fill_after out fill (answer_line n a.answer a.subsystem a.task a.ended)) × (after ≡ out_after out fill (answer_line n a.answer a.subsystem a.task a.ended))) where
+  text_is : answer_line n a.answer a.subsystem a.task a.ended ≡ printed n (line_gives p s line)
+  unfolding printed answer_of
+  text_is = rw e
+
+  filled : r ≡ fill_after out fill (printed n (line_gives p s line))
+  filled = g.0 ∙ ap (fill_after out fill) text_is
+
+  pub written : after ≡ lined_out p s n line out fill
+  unfolding lined_out
+  written = g.1 ∙ ap (out_after out fill) text_is
+
+  -- it had room
+  pub lined_room : {m : ℕ} → r ≡ Some m → (Some (record { answer = a.answer; fill = m }) ≡ lined p s n line out fill) × (next ≡ lined_state p s n line out fill) × (after ≡ lined_out p s n line out fill)
+  unfolding lined lined_by lined_state lined_state_by answer_of
+  lined_room {m} t =
+      let h = has_room_lem out fill (printed n (line_gives p s line)) (sym t ∙ filled) in
+      (rw (lined_by, h.0, h.1, e), rw (lined_state_by, h.0) f, written)
+
+  -- it had none
+  pub lined_none : r ≡ None → (◌≡◌ {A = Option Lined} None (lined p s n line out fill)) × (s ≡ lined_state p s n line out fill) × (after ≡ lined_out p s n line out fill)
+  unfolding lined lined_by lined_state lined_state_by
+  lined_none t =
+      let h = has_none out fill (printed n (line_gives p s line)) (sym t ∙ filled) in
+      (rw (lined_by, h), rw (lined_state_by, h), written)
+
+  -- with room, what is given back piece by piece
+  pub put_line : {m : ℕ} → r ≡ Some m → LinePut p s n line out fill next m after
+  unfolding lined_out
+  put_line t = record { state = f; filled = (has_room_lem out fill (printed n (line_gives p s line)) (sym t ∙ filled)).1; written = written }

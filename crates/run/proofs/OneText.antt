@@ -10,8 +10,8 @@ use lib.Dec.{leb}
 use borrow.Author.Tests.{leb-true, leb-false, le-leb, lt-leb}
 use Rattle.line.specs.Filled.{has_room, out_after}
 use Rattle.line.proofs.Room as room
-use Rattle.run.specs.declared.Ran.{Ran}
-use Rattle.run.specs.AsFar.{as_far, as_far_out, in_one}
+use Rattle.std.specs.Prelude.{Ok}
+use Rattle.run.specs.AsFar.{as_far, as_far_out, is_whole, in_one}
 use Rattle.run.proofs.AsFarLaws.{far_room, far_none, out_room}
 
 -- one line that has room
@@ -40,7 +40,7 @@ module _ (out : List ℕ) (fill : ℕ) (l : List ℕ) (h : fill + length l ≤ l
 
 -- what is answered then, and what stands in the buffer
 pub record Whole (ls : List (List ℕ)) (out : List ℕ) (fill : ℕ) : Type 0 where
-  pub answer : as_far ls out fill ≡ record { fill = fill + length (in_one ls); whole = true }
+  pub answer : as_far ls out fill ≡ Ok (fill + length (in_one ls))
   pub holds : as_far_out ls out fill ≡ take fill out ++ (in_one ls ++ drop (fill + length (in_one ls)) out)
 
 none_whole : (out : List ℕ) (fill : ℕ) → Whole [] out fill
@@ -73,23 +73,23 @@ all_whole (l ∷ ls) out fill h =
     line_whole l ls out fill f (all_whole ls (out_after out fill l) (fill + length l) (rw (after_length out fill l f) (omega arith)))
 
 -- where the answer is whole, the text has room
-pub whole_room : (ls : List (List ℕ)) (out : List ℕ) (fill : ℕ) → fill ≤ length out → (as_far ls out fill).whole ≡ true
+pub whole_room : (ls : List (List ℕ)) (out : List ℕ) (fill : ℕ) → fill ≤ length out → is_whole (as_far ls out fill) ≡ true
     → fill + length (in_one ls) ≤ length out
 unfolding in_one
 whole_room [] out fill h t = omega arith
 whole_room (l ∷ ls) out fill h t = go (has_room out fill l) refl (whole_room ls (out_after out fill l) (fill + length l))
   where
     go : (b : Bool) → has_room out fill l ≡ b
-        → (fill + length l ≤ length (out_after out fill l) → (as_far ls (out_after out fill l) (fill + length l)).whole ≡ true
+        → (fill + length l ≤ length (out_after out fill l) → is_whole (as_far ls (out_after out fill l) (fill + length l)) ≡ true
         → fill + length l + length (in_one ls) ≤ length (out_after out fill l))
         → fill + length (l ++ in_one ls) ≤ length out
     go true b ih =
         let m : length l ≤ length out - fill = rw length-drop at (leb-true (length l) (length (drop fill out)) (unfold has_room in b)) in
         let f : fill + length l ≤ length out = omega arith in
         let k = after_length out fill l f in
-        let i = ih (omega arith) (sym (ap (λ (r : Ran). r.whole) (far_room out fill l ls b)) ∙ t) in
+        let i = ih (omega arith) (sym (ap is_whole (far_room out fill l ls b)) ∙ t) in
         rw length-append (omega arith)
-    go false b ih = absurd (false≢true (sym (ap (λ (r : Ran). r.whole) (far_none out fill l ls b)) ∙ t))
+    go false b ih = absurd (false≢true (sym (ap is_whole (far_none out fill l ls b)) ∙ t))
 
 -- a fill past the end leaves room for empty lines alone
 module _ (out : List ℕ) (fill : ℕ) (past : length out ≤ fill) where
@@ -102,7 +102,7 @@ module _ (out : List ℕ) (fill : ℕ) (past : length out ≤ fill) where
   unfolding has_room
   some_not x xs = lt-leb (length (x ∷ xs)) (length (drop fill out)) (rw length-drop (omega arith))
 
-  past_whole : (ls : List (List ℕ)) → (as_far ls out fill).whole ≡ true → Whole ls out fill
+  past_whole : (ls : List (List ℕ)) → is_whole (as_far ls out fill) ≡ true → Whole ls out fill
   unfolding in_one
   past_whole [] t = none_whole out fill
   past_whole ([] ∷ ls) t = go has_none (past_whole ls)
@@ -110,18 +110,18 @@ module _ (out : List ℕ) (fill : ℕ) (past : length out ≤ fill) where
       has_none : has_room out fill [] ≡ true
       has_none = unfold has_room in le-leb 0 (length (drop fill out)) (omega arith)
 
-      go : has_room out fill [] ≡ true → ((as_far ls out fill).whole ≡ true → Whole ls out fill) → Whole ([] ∷ ls) out fill
+      go : has_room out fill [] ≡ true → (is_whole (as_far ls out fill) ≡ true → Whole ls out fill) → Whole ([] ∷ ls) out fill
       go e ih =
           let z : fill + 0 ≡ fill = omega arith in
           let f : as_far ([] ∷ ls) out fill ≡ as_far ls out fill = far_room out fill [] ls e ∙ rw (none_after e, z) in
           let g : as_far_out ([] ∷ ls) out fill ≡ as_far_out ls out fill = out_room out fill [] ls e ∙ rw (none_after e, z) in
-          let w = ih (sym (ap (λ (r : Ran). r.whole) f) ∙ t) in
+          let w = ih (sym (ap is_whole f) ∙ t) in
           record { answer = f ∙ w.answer; holds = g ∙ w.holds }
   past_whole ((x ∷ xs) ∷ ls) t =
-      absurd (false≢true (sym (ap (λ (r : Ran). r.whole) (far_none out fill (x ∷ xs) ls (some_not x xs))) ∙ t))
+      absurd (false≢true (sym (ap is_whole (far_none out fill (x ∷ xs) ls (some_not x xs))) ∙ t))
 
 -- the report is one text: what stood before the fill stays, and the fill moves by its length
-pub whole_text : (ls : List (List ℕ)) (out : List ℕ) (fill : ℕ) → (as_far ls out fill).whole ≡ true → Whole ls out fill
+pub whole_text : (ls : List (List ℕ)) (out : List ℕ) (fill : ℕ) → is_whole (as_far ls out fill) ≡ true → Whole ls out fill
 whole_text ls out fill t = go (leb fill (length out)) refl
   where
     go : (b : Bool) → leb fill (length out) ≡ b → Whole ls out fill

@@ -1,5 +1,5 @@
 -- The loop over the lines of an event text: what one turn changes, and where it stops. And that the lines of a run, as one text, are its printed text.
-use mathlib.Core.Path.{◌≡◌, refl, ap, ◌∙◌}
+use mathlib.Core.Path.{◌≡◌, refl, sym, ap, ◌∙◌}
 use mathlib.Core.Bool.{Bool, true, false}
 use mathlib.Core.List.{List, [], ◌∷◌, ◌++◌, append-nil}
 use Prim.Native.Nat.{ℕ, zero, suc, ◌+◌, ◌-◌, ◌≤◌, ◌<◌}
@@ -8,25 +8,25 @@ use lib.ListN.{length, take, drop, drop_of_length-le}
 use lib.Seq.{take-nil, drop-drop}
 use Rattle.text.specs.Lines.{line_feed, until, lines}
 use Rattle.plan.specs.declared.Plan.{Plan}
+use Rattle.plan.specs.declared.CeiledPlan.{CeiledPlan}
 use Rattle.reader.specs.Numbers.{number, beside, is_accepted}
 use Rattle.reader.specs.Reading.{reading}
 use Rattle.state.specs.declared.State.{State}
 use Rattle.state.specs.Fresh.{fresh}
 use Rattle.step.specs.declared.Outcome.{Outcome}
-use Rattle.step.specs.declared.Rows.{Rows}
-use Rattle.step.specs.Lent.{Lent}
+use Rattle.std.specs.Prelude.{Option, Some, None, Err}
 use Rattle.line.specs.Printed.{printed, printed_refusal}
 use Rattle.line.specs.Run.{most_lines, line_gives, outcomes, printed_from, printed_run, run}
 use Rattle.run.specs.declared.Lined.{Lined}
-use Rattle.run.specs.Lined.{lined, lined_out}
+use Rattle.run.specs.Lined.{lined, lined_state, lined_out}
 use Rattle.run.specs.AsFar.{in_one}
-use Rattle.run.specs.Stream.{At}
 use Rattle.run.specs.Fed.{first_line}
 use Rattle.run.specs.Running.{printed_lines, run_lines}
 use Rattle.run.proofs.AsFarLaws.{Leads, Ends, leads_start, leads_on, leads_out}
 use Rattle.run.proofs.KeptBytes.{take_length_take}
-use Rattle.run.proofs.LineSteps.{line_lent}
-use Rattle.run.proofs.TakenLines.{given, text, step_room, some_room, says_none, says_room}
+use Rattle.run.specs.Standing.{Stands}
+use Rattle.run.proofs.LineSteps.{line_stands}
+use Rattle.run.proofs.TakenLines.{text, fill_room, fill_none, step_room, step_none}
 use Rattle.run.proofs.FirstLines.{lines_first}
 
 -- the printed lines of an event text from line n on
@@ -62,33 +62,35 @@ module _ (p : Plan) (s : State) (n : ℕ) where
       ap (λ (ls : List (List ℕ)). printed_lines n (outcomes p s (take (suc most_lines - n) ls))) (lines_first t h)
       ∙ ap (λ (k : ℕ). printed_lines n (outcomes p s (take k (first_line t ∷ lines (drop (length (first_line t)) t))))) {x = suc most_lines - n} {y = suc (suc most_lines - (n + 1))} (omega arith)
 
-  -- one turn: by what a line step gave back
-  module _ (t : List ℕ) (at : ℕ) (out : List ℕ) (fill : ℕ) (some : 1 ≤ length (drop at t)) (g : n ≤ most_lines) {l : Lined} {after : List ℕ}
-      (e : l ≡ lined p s n (first_line (drop at t)) out fill) (f : after ≡ lined_out p s n (first_line (drop at t)) out fill) where
-    abbrev x : At
-    x = record { state = s; number = n; kept = [] }
-
+  -- one turn
+  module _ (t : List ℕ) (at : ℕ) (out : List ℕ) (fill : ℕ) (some : 1 ≤ length (drop at t)) (g : n ≤ most_lines)
+      {all : List (List ℕ)} {out₀ : List ℕ} {fill₀ : ℕ} (w : Leads (lines_left p s n (drop at t)) out fill all out₀ fill₀) where
     abbrev line : List ℕ
     line = first_line (drop at t)
 
-    -- with room the lines behind it are left, without it the run ends here
-    module _ {all : List (List ℕ)} {out₀ : List ℕ} {fill₀ : ℕ} (w : Leads (lines_left p s n (drop at t)) out fill all out₀ fill₀) where
-      next : Leads (printed n (line_gives p s line) ∷ lines_left p (line_gives p s line).state (n + 1) (drop (at + length line) t)) out fill all out₀ fill₀
-      next = rw (left_next (drop at t) some g, drop-drop (length line) at t) at w
+    left : Leads (printed n (line_gives p s line) ∷ lines_left p (line_gives p s line).state (n + 1) (drop (at + length line) t)) out fill all out₀ fill₀
+    left = rw (left_next (drop at t) some g, drop-drop (length line) at t) at w
 
-      pub turn_room : (l.fill ≡ fill → ⊥) → Leads (lines_left p l.state (n + 1) (drop (at + length line) t)) after l.fill all out₀ fill₀
-      unfolding text given lined_out
-      turn_room h =
-          let k : l.state ≡ (line_gives p s line).state = ap (λ y. y.state) (e ∙ step_room p x line out fill (some_room p x line out fill e h)) in
-          rw k (leads_on next (says_room p x line out fill e h) f)
+    -- the line had room: those behind it are left
+    pub turn_room : {next : State} {after : List ℕ} {l : Lined} → Some l ≡ lined p s n line out fill → next ≡ lined_state p s n line out fill → after ≡ lined_out p s n line out fill
+        → Leads (lines_left p next (n + 1) (drop (at + length line) t)) after l.fill all out₀ fill₀
+    unfolding text
+    turn_room e f h =
+        let r = step_room p s n line out fill e f h in
+        rw r.1.state (leads_on left (rw r.1.filled (sym (fill_room out fill _ r.0))) r.1.written)
 
-      pub turn_none : l.fill ≡ fill → Ends (record { fill = fill; whole = false }) after all out₀ fill₀
-      unfolding text given lined_out
-      turn_none h = leads_out next (says_none p x line out fill e h) f
+    -- it had none: the run ends here
+    pub turn_none : {next : State} {after : List ℕ} → ◌≡◌ {A = Option Lined} None (lined p s n line out fill) → next ≡ lined_state p s n line out fill → after ≡ lined_out p s n line out fill
+        → Ends (Err (record { fill = fill })) after all out₀ fill₀
+    unfolding text lined_out
+    turn_none e f h = leads_out left (sym (fill_none out fill _ (step_none p s n line out fill e f h).0)) h
 
-    pub turn_legal : (rows : Rows) (lengths : List ℕ) → (l.fill ≡ fill → ⊥) → Lent p s rows lengths → Lent p l.state rows lengths
-    unfolding given
-    turn_legal rows lengths h L = rw (e ∙ step_room p x line out fill (some_room p x line out fill e h)) (line_lent p s rows lengths L line)
+-- a legal state stays legal
+pub turn_stands : (c : CeiledPlan) (s : State) (n : ℕ) (t : List ℕ) (at : ℕ) (out : List ℕ) (fill : ℕ) {l : Lined} {next : State} {after : List ℕ}
+    → Some l ≡ lined c.plan s n (first_line (drop at t)) out fill → next ≡ lined_state c.plan s n (first_line (drop at t)) out fill → after ≡ lined_out c.plan s n (first_line (drop at t)) out fill
+    → Stands c s → Stands c next
+turn_stands c s n t at out fill e f h S =
+    rw (step_room c.plan s n (first_line (drop at t)) out fill e f h).1.state (line_stands c s S (first_line (drop at t)))
 
 -- the first line as it is lent
 pub first_lent : (t : List ℕ) (at end : ℕ) → end ≡ at + length (first_line (drop at t)) → take (end - at) (drop at t) ≡ first_line (drop at t)

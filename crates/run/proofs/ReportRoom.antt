@@ -14,8 +14,7 @@ use Rattle.reader.specs.Reading.{reading}
 use Rattle.reader.specs.Margin.{has_margins}
 use Rattle.line.specs.Printed.{printed_refusal}
 use Rattle.line.specs.Report.{report}
-use Rattle.run.specs.declared.Ran.{Ran}
-use Rattle.run.specs.AsFar.{as_far, as_far_out, in_one}
+use Rattle.run.specs.AsFar.{as_far, as_far_out, fill_of, is_whole, in_one}
 use Rattle.run.specs.Reporting.{report_from, report_of, reported_lines}
 use Rattle.run.proofs.OneText.{Whole, all_whole}
 use Rattle.run.proofs.InOne.{report_joined}
@@ -45,21 +44,21 @@ report_length text = go (reading text) (has_margins (reading text)) (modest_read
 pub report_whole : (text out : List ℕ) → 1024 ≤ length out → Whole (reported_lines text) out 0
 report_whole text out h = all_whole (reported_lines text) out 0 (omega (arith, report_length text))
 
-pub report_room : (text out : List ℕ) → 1024 ≤ length out → (as_far (reported_lines text) out 0).whole ≡ true
-report_room text out h = ap (λ (r : Ran). r.whole) (report_whole text out h).answer
+pub report_room : (text out : List ℕ) → 1024 ≤ length out → is_whole (as_far (reported_lines text) out 0) ≡ true
+report_room text out h = ap is_whole (report_whole text out h).answer
 
 -- the bytes before the new fill are the admission report
 pub report_printed : (text out : List ℕ) → 1024 ≤ length out
-    → take (as_far (reported_lines text) out 0).fill (as_far_out (reported_lines text) out 0) ≡ report text
+    → take (fill_of (as_far (reported_lines text) out 0)) (as_far_out (reported_lines text) out 0) ≡ report text
 report_printed text out h =
     let w = report_whole text out h in
     rw (w.answer, w.holds, zero-add) (take_at (in_one (reported_lines text)) _ _ refl ∙ report_joined text)
 
 -- so a program that reads 16,385 bytes of a file at most prints what the whole file deserves
 pub cut_printed : (text out : List ℕ) → 1024 ≤ length out
-    → take (as_far (reported_lines (take 16385 text)) out 0).fill (as_far_out (reported_lines (take 16385 text)) out 0) ≡ report text
+    → take (fill_of (as_far (reported_lines (take 16385 text)) out 0)) (as_far_out (reported_lines (take 16385 text)) out 0) ≡ report text
 cut_printed text out h = rw (cut_lines text) (report_printed text out h)
 
 -- the new fill is within the buffer
-pub report_fill : (text out : List ℕ) → 1024 ≤ length out → (as_far (reported_lines text) out 0).fill ≤ 1024
-report_fill text out h = omega (arith, ap (λ (r : Ran). r.fill) (report_whole text out h).answer, report_length text)
+pub report_fill : (text out : List ℕ) → 1024 ≤ length out → fill_of (as_far (reported_lines text) out 0) ≤ 1024
+report_fill text out h = omega (arith, ap fill_of (report_whole text out h).answer, report_length text)

@@ -15,10 +15,11 @@ use Rattle.plan.specs.Facts.{Accepted}
 use Rattle.state.specs.declared.State.{State}
 use Rattle.step.proofs.Numbers.{Numbers, of_answered, of_stepped}
 use Rattle.line.specs.declared.Event.{Event}
-use Rattle.line.specs.declared.Event.TheVariants.{Known, Malformed}
+use Rattle.std.specs.Prelude.{Option, Some, None}
 use Rattle.line.specs.Event.{event_of}
 use Rattle.line.specs.Run.{most_lines, event_gives, line_gives}
 use Rattle.line.proofs.Short.{printed_length}
+use Rattle.run.specs.declared.stream.Stream.{Stream}
 use Rattle.run.specs.declared.stream.Fed.{Fed}
 use Rattle.run.specs.Stream.{At, keeping, is_going, line_printed, fed_printed}
 use Rattle.run.specs.Fed.{Taken, taken_of, piece_taken, first_line}
@@ -30,10 +31,10 @@ use Rattle.run.proofs.FedFacts.{FedFacts, piece_facts}
 use Rattle.run.proofs.RoomyLines.{fits}
 
 -- the numbers of what a line gives
-of_event : (p : Plan) (s : State) (e : Event) → Numbers p (event_gives p s e)
+of_event : (p : Plan) (s : State) (e : Option Event) → Numbers p (event_gives p s e)
 unfolding event_gives
-of_event p s (Known kind k r) = of_stepped p s kind k r
-of_event p s Malformed = of_answered p s 11 (omega arith)
+of_event p s (Some e) = of_stepped p s e.kind e.task e.resource
+of_event p s None = of_answered p s 11 (omega arith)
 
 of_line : (p : Plan) (s : State) (line : List ℕ) → Numbers p (line_gives p s line)
 unfolding line_gives
@@ -72,6 +73,6 @@ module _ (p : Plan) (A : Accepted p) where
         (fits t.out t.fill _ (omega (arith, q, ap length (o ∙ out_quiet out fill), first_short t.at (drop t.bytes piece))))
         (F.rest (omega arith)).no_room
 
-    pub takes_some : (f : Fed) (after : List ℕ) → taken_of f after ≡ piece_taken p x piece out fill → f.taken ≡ 0 → ⊥
+    pub takes_some : (s : Stream) (f : Fed) (after : List ℕ) → taken_of s f after ≡ piece_taken p x piece out fill → f.taken ≡ 0 → ⊥
     unfolding taken_of
-    takes_some f after e z = none_left (piece_taken p x piece out fill) (piece_facts p x piece out fill) (sym (ap (λ (t : Taken). t.bytes) e) ∙ z)
+    takes_some s f after e z = none_left (piece_taken p x piece out fill) (piece_facts p x piece out fill) (sym (ap (λ (t : Taken). t.bytes) e) ∙ z)

@@ -3,7 +3,6 @@ use mathlib.Core.Path.{◌≡◌, sym, ap, ◌∙◌}
 use mathlib.Core.Bool.{true, false}
 use mathlib.Core.List.{List, [], ◌∷◌}
 use lib.IntN.{ℤ}
-use lib.ListN.{get_or}
 use Prim.Native.Nat.{ℕ, suc, ◌+◌, ◌-◌, ◌≤◌, ◌<◌}
 use native.Mathlib.Omega.{arith}
 use Rattle.plan.specs.declared.Plan.{Plan}
@@ -13,7 +12,7 @@ use Rattle.reader.specs.declared.Reading.{Reading}
 use Rattle.reader.specs.Numbers.{number, beside}
 use Rattle.reader.specs.Reading.{reading}
 use Rattle.reader.specs.Margin.{has_margins}
-use Rattle.line.specs.declared.Filled.{Filled}
+use Rattle.std.specs.Prelude.{Option}
 use Rattle.line.specs.Filled.{fill_after, out_after}
 use Rattle.line.specs.Printed.{printed_refusal}
 use Rattle.line.specs.Report.{report_line}
@@ -48,13 +47,12 @@ leads_rows p s out fill z =
     rw (z, e) (leads_start _ out fill)
 
 -- the text of the numbers of a row
-pub row_text_lem : (p : Plan) (s a b k d : ℕ) {m : ℤ} → a ≡ get_or p.periods s 0 → b ≡ get_or p.budgets s 0
+pub row_text_lem : (p : Plan) (s a b k d : ℕ) {m : ℤ} → a ≡ period p s → b ≡ budget p s
     → k ≡ blocking p s → d ≡ demand p s → m ≡ margin p s → report_text s a b k d m ≡ report_line p s
-unfolding period budget
 row_text_lem p s a b k d e f g h i = rw (e, f, g, h, i) (sym (reported p s))
 
 -- what writing the line of a refusal answers, by the refusal's numbers
-pub refused_so : (out : List ℕ) (fill n b m k : ℕ) {r : Filled} {new : List ℕ}
+pub refused_so : (out : List ℕ) (fill n b m k : ℕ) {r : Option ℕ} {new : List ℕ}
     → (r ≡ fill_after out fill (printed_refusal n b)) × (new ≡ out_after out fill (printed_refusal n b)) → n ≡ m → b ≡ k
     → (r ≡ fill_after out fill (printed_refusal m k)) × (new ≡ out_after out fill (printed_refusal m k))
 refused_so out fill n b m k w e f = rw (e, f) at w

@@ -1,11 +1,13 @@
 -- A line of a report has at most 128 bytes.
 use mathlib.Core.Bool.{Bool, true, false, cond, ◌&&◌}
 use mathlib.Core.List.{[], ◌∷◌}
-use Prim.Native.Nat.{ℕ, ◌*◌, ◌^◌, ◌≤◌, ◌<◌}
-use native.Mathlib.Nat.{div-le_self, lt_of_le_of_lt}
+use Prim.Native.Nat.{ℕ, ◌+◌, ◌*◌, ◌^◌, ◌≤◌, ◌<◌}
+use mathlib.Core.Path.{subst⁻¹}
+use native.Mathlib.Nat.{div-le_self, lt_of_le_of_lt, le_of_lt, mul-le-mul_left, mul-lt-mul_of_pos_right}
 use native.Mathlib.Omega.{arith}
 use lib.Dec.{ltb, leb}
 use lib.ListN.{length}
+use lib.Pow.{pow_pos, pow-add}
 use mir.Syntax.{w64}
 use mir.Val.{SFits}
 use mir.Facts.{to_z_pos}
@@ -16,7 +18,7 @@ use Rattle.text.specs.Numbers.{decimal}
 use Rattle.plan.specs.declared.Plan.{Plan}
 use Rattle.plan.specs.Plan.{period, budget, owner, is_global, length_of, declares, level, place}
 use Rattle.plan.specs.Admission.{blocking, demand, margin}
-use Rattle.plan.proofs.Bounds.{product, difference_fits}
+use Rattle.plan.proofs.Bounds.{difference_fits}
 use Rattle.line.specs.Printed.{printed_refusal}
 use Rattle.line.specs.Report.{signed, report_line}
 use Rattle.line.proofs.Decimal.{decimal_length}
@@ -30,6 +32,12 @@ unfolding printed_refusal bytes
 refusal_short n b h k =
     omega
     (arith, more_length (bytes "plan") (decimal n) (decimal b ∷ []), more_length (decimal n) (decimal b) [], last_length (decimal b), decimal_length 1 n (omega arith), decimal_length 4 b (omega arith))
+
+-- a product fits in as many bits as its factors have together
+product : (j k : ℕ) {a b : ℕ} → a < 2 ^ j → b < 2 ^ k → a * b < 2 ^ (j + k)
+product j k {a} {b} ha hb =
+    subst⁻¹ (λ (n : ℕ). a * b < n) (pow-add 2 j k)
+    (lt_of_le_of_lt (mul-le-mul_left a (le_of_lt hb)) (mul-lt-mul_of_pos_right ha (pow_pos k)))
 
 -- the numbers of a row
 module _ (p : Plan) (w : Small p) where

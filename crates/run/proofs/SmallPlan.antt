@@ -15,7 +15,8 @@ use Rattle.plan.specs.Admission.{first_negative}
 use Rattle.reader.specs.declared.Verdict.{Verdict}
 use Rattle.reader.specs.declared.Verdict.TheVariants.{Accepted, TooLong, NotGrammar, KindOrder, TooManyRows, NoSuchRow, OutOfRange, Twice, TwoSubsystems, AboveBudget, NoSubsystem, NegativeMargin}
 use Rattle.reader.specs.declared.Line.{Line}
-use Rattle.reader.specs.declared.Line.TheVariants.{Subsystem, Task, Resource, Uses, Malformed}
+use Rattle.reader.specs.declared.Line.TheVariants.{Subsystem, Task, Resource, Uses}
+use Rattle.std.specs.Prelude.{Option, Some, None}
 use Rattle.reader.specs.declared.Reading.{Reading}
 use Rattle.reader.specs.Numbers.{number, beside, is_accepted}
 use Rattle.reader.specs.Line.{line_of, kind_of}
@@ -55,33 +56,33 @@ unfolding empty_plan
 small_empty = record { counts = counts_empty; periods_small = zeros_small 8; budgets_small = zeros_small 8; lengths_small = zeros_small 512 }
 
 -- one line more
-small_line : (p : Plan) (l : Line) → Room p l → Small p → Small (with_line p l)
+small_line : (p : Plan) (l : Option Line) → Room p l → Small p → Small (with_line p l)
 unfolding with_line with_subsystem with_task with_resource with_use
-small_line p (Subsystem period budget) r w = record {
-  counts = counts_kept p (Subsystem period budget) w.counts r;
+small_line p (Some (Subsystem period budget)) r w = record {
+  counts = counts_kept p (Some (Subsystem period budget)) w.counts r;
   periods_small = set_small p.periods p.subsystems period (omega arith) w.periods_small;
   budgets_small = set_small p.budgets p.subsystems budget (omega arith) w.budgets_small;
   lengths_small = w.lengths_small;
 }
-small_line p (Task subsystem) r w = record {
-  counts = counts_kept p (Task subsystem) w.counts r;
+small_line p (Some (Task subsystem)) r w = record {
+  counts = counts_kept p (Some (Task subsystem)) w.counts r;
   periods_small = w.periods_small;
   budgets_small = w.budgets_small;
   lengths_small = w.lengths_small;
 }
-small_line p (Resource kind) r w = record {
-  counts = counts_kept p (Resource kind) w.counts r;
+small_line p (Some (Resource kind)) r w = record {
+  counts = counts_kept p (Some (Resource kind)) w.counts r;
   periods_small = w.periods_small;
   budgets_small = w.budgets_small;
   lengths_small = opened_small p.tasks p.resources p.lengths w.lengths_small;
 }
-small_line p (Uses task resource length) r w = record {
-  counts = counts_kept p (Uses task resource length) w.counts r;
+small_line p (Some (Uses task resource length)) r w = record {
+  counts = counts_kept p (Some (Uses task resource length)) w.counts r;
   periods_small = w.periods_small;
   budgets_small = w.budgets_small;
   lengths_small = set_small p.lengths (place task resource) length (omega arith) w.lengths_small;
 }
-small_line p Malformed r w = w
+small_line p None r w = w
 
 -- what is said of line n names line n at most
 abbrev Low : ℕ → List (Bool × Verdict) → Type 0
@@ -97,7 +98,7 @@ first_low n (t ∷ ts) w = go t.0 (first_low n ts w.1)
     go true h = w.0
     go false h = h
 
-judged_beside : (p : Plan) (last n : ℕ) (l : Line) → beside (judged p last n l) ≤ n
+judged_beside : (p : Plan) (last n : ℕ) (l : Option Line) → beside (judged p last n l) ≤ n
 unfolding judged
 judged_beside p last n l =
     let s : n ≤ n = omega arith in
@@ -115,7 +116,7 @@ modest_refused m v h = record { small = small_empty; low = h }
 modest_more : {m n : ℕ} {r : Reading} → m ≤ n → Modest m r → Modest n r
 modest_more h w = record { small = w.small; low = omega arith }
 
-small_next : (p : Plan) (last n : ℕ) (l : Line) → Small p → is_accepted (judged p last n l) ≡ true → Small (with_line p l)
+small_next : (p : Plan) (last n : ℕ) (l : Option Line) → Small p → is_accepted (judged p last n l) ≡ true → Small (with_line p l)
 small_next p last n l w t = small_line p l (room p last n l w.counts (accepted_is (judged p last n l) t)) w
 
 modest_read : (ls : List (List ℕ)) (n last : ℕ) (p : Plan) → Small p → Modest (n + length ls) (read_from ls n last p)

@@ -1,5 +1,5 @@
 -- Laws of one line as it is fed: its end with the line feed, a piece that ends within it, and the first line of a piece.
-use mathlib.Core.Path.{◌≡◌, refl, sym, ap, ap₂, ◌∙◌}
+use mathlib.Core.Path.{◌≡◌, refl, sym, ap, ◌∙◌}
 use mathlib.Core.Bool.{true, false}
 use mathlib.Core.List.{List, [], ◌∷◌, ◌++◌, append-nil, append_assoc}
 use Prim.Native.Nat.{ℕ, suc, ◌+◌, ◌≤◌}
@@ -12,11 +12,10 @@ use Rattle.plan.specs.declared.Plan.{Plan}
 use Rattle.line.specs.Printed.{printed}
 use Rattle.line.specs.Run.{most_lines}
 use Rattle.run.specs.Stream.{At, most_kept, keeping, is_going, line_done, line_printed, fed_byte, byte_printed, fed, fed_printed}
-use Rattle.run.specs.Fed.{Taken, taken_to, line_taken, whole_line}
+use Rattle.run.specs.Fed.{whole_line}
 use Rattle.run.proofs.Keeping.{take_again}
 use Rattle.run.proofs.Going.{byte_on, byte_quiet}
 use Rattle.run.proofs.Pieces.{gives_kept}
-use Rattle.run.proofs.TakenLines.{taken_quiet}
 
 -- bytes kept one after the other
 keeping_again : (x : At) (a b : List ℕ) → keeping (keeping x a) b ≡ keeping x (a ++ b)
@@ -96,37 +95,31 @@ module _ (p : Plan) (x : At) {l : List ℕ} (w : Whole line_feed l) (none : x.ke
       rw none
       (ap (λ o. elim (leb x.number most_lines) [ true ↦ printed x.number o | false ↦ [] ]) (sym (gives_kept p x.state w)))
 
--- the end of a line is taken
-module _ (p : Plan) (x : At) (part out : List ℕ) (fill : ℕ) (h : until line_feed part + 1 ≡ length part) where
-  abbrev pub Answered : List ℕ → Taken
-  Answered line = taken_to x (line_done p (whole_line x line)) (length part) (line_printed p (whole_line x line)) out fill
+-- the end of a line, by the line that is answered
+module _ (p : Plan) (x : At) (part : List ℕ) (h : until line_feed part + 1 ≡ length part) where
+  abbrev pub Comes : List ℕ → Type 0
+  Comes line = (line_done p (whole_line x line) ≡ fed p x part) × (line_printed p (whole_line x line) ≡ fed_printed p x part)
 
-  pub end_there : x.kept ≡ [] → Answered part ≡ line_taken p x part out fill
-  unfolding line_taken
+  -- it is read where it lies
+  pub end_there : x.kept ≡ [] → Comes part
   end_there none = go (ended part h)
     where
-      go : Ended part → Answered part ≡ line_taken p x part out fill
+      go : Ended part → Comes part
       go r =
-          rw r.is
-          (ap₂ (λ y t. taken_to x y (length (r.front ++ (line_feed ∷ []))) t out fill)
-          (done_there p x r.before none ∙ sym (fed_ended p x r.before))
-          (printed_there p x r.before none ∙ sym (printed_ended p x r.before)))
+          rw r.is (
+            done_there p x r.before none ∙ sym (fed_ended p x r.before),
+            printed_there p x r.before none ∙ sym (printed_ended p x r.before),
+          )
 
-  pub end_kept : (line : List ℕ) → line ≡ take most_kept (x.kept ++ part) → Answered line ≡ line_taken p x part out fill
-  unfolding line_taken whole_line keeping
+  -- it is read through the kept bytes
+  pub end_kept : (line : List ℕ) → line ≡ take most_kept (x.kept ++ part) → Comes line
+  unfolding whole_line keeping
   end_kept line e = rw e (go (ended part h))
     where
-      go : Ended part → Answered (take most_kept (x.kept ++ part)) ≡ line_taken p x part out fill
-      go r =
-          rw r.is
-          (ap₂ (λ y t. taken_to x y (length (r.front ++ (line_feed ∷ []))) t out fill)
-          (sym (fed_ended p x r.before))
-          (sym (printed_ended p x r.before)))
+      go : Ended part → Comes (take most_kept (x.kept ++ part))
+      go r = rw r.is (sym (fed_ended p x r.before), sym (printed_ended p x r.before))
 
 -- a piece that ends within a line
-pub inside_taken : (p : Plan) (x : At) (l out : List ℕ) (fill : ℕ) → 1 ≤ length l → Whole line_feed l
-    → line_taken p x l out fill ≡ record { at = keeping x l; bytes = length l; fill = fill; out = out }
-unfolding line_taken
-inside_taken p x [] out fill h w = absurd (omega arith)
-inside_taken p x (b ∷ l) out fill h w =
-    rw (printed_inside p x w, fed_inside p x b l w) (taken_quiet x (keeping x (b ∷ l)) (length (b ∷ l)) out fill)
+pub inside_fed : (p : Plan) (x : At) (l : List ℕ) → 1 ≤ length l → Whole line_feed l → (fed p x l ≡ keeping x l) × (fed_printed p x l ≡ [])
+inside_fed p x [] h w = absurd (omega arith)
+inside_fed p x (b ∷ l) h w = (fed_inside p x b l w, printed_inside p x w)

@@ -1,10 +1,10 @@
 -- "The run program": what a piece of an event file gives, as far as the buffer goes. Its lines are taken one after the other, up to the first whose
 -- printed line has no room: the rest of the piece is fed again once the buffer was emptied.
-use Rattle.std.specs.Prelude.{true, false, List, [], ◌∷◌, ℕ, ◌+◌, ◌≤◌, length, take, drop}
+use Rattle.std.specs.Prelude.{◌≡◌, true, false, List, [], ◌∷◌, ℕ, ◌+◌, ◌≤◌, length, take, drop, Option}
 use Rattle.text.specs.Lines.{line_feed, until, lines}
 use Rattle.plan.specs.declared.Plan.{Plan}
 use Rattle.state.specs.declared.State.{State}
-use Rattle.line.specs.Filled.{has_room, out_after}
+use Rattle.line.specs.Filled.{has_room, fill_after, out_after}
 use Rattle.run.specs.declared.kept.Kept.{Kept}
 use Rattle.run.specs.declared.stream.Stream.{Stream}
 use Rattle.run.specs.declared.stream.Fed.{Fed}
@@ -25,14 +25,20 @@ pub record Taken : Type 0 where
   pub fill : ℕ
   pub out : List ℕ
 
--- what came back, with the buffer
-unfoldable pub taken_of : Fed → List ℕ → Taken
-taken_of r out = record { at = at_of r.stream; bytes = r.taken; fill = r.fill; out = out }
+-- what came back, with the stream and the buffer
+unfoldable pub taken_of : Stream → Fed → List ℕ → Taken
+taken_of s r out = record { at = at_of s; bytes = r.taken; fill = r.fill; out = out }
 
 -- whatever plan is lent: no more than n bytes are taken, and a fill within a buffer of some room stays within it
 pub record Within (n room fill : ℕ) (r : Fed) : Type 0 where
   pub taken : r.taken ≤ n
   pub filled : fill ≤ room → r.fill ≤ room
+
+-- a text that leads from x to y is put behind the fill, if it has room: what came back, where the run stands then, and the buffer
+pub record Put (x y : At) (t out : List ℕ) (fill : ℕ) (r : Option ℕ) (z : At) (after : List ℕ) : Type 0 where
+  pub filled : r ≡ fill_after out fill t
+  pub stands : z ≡ elim (has_room out fill t) [ true ↦ y | false ↦ x ]
+  pub written : after ≡ out_after out fill t
 
 -- nothing was taken
 unfoldable pub nothing : At → List ℕ → ℕ → Taken
@@ -41,18 +47,6 @@ nothing x out fill = record { at = x; bytes = 0; fill = fill; out = out }
 -- n bytes were taken before
 unfoldable pub behind : ℕ → Taken → Taken
 behind n t = record { at = t.at; bytes = n + t.bytes; fill = t.fill; out = t.out }
-
--- n bytes that print t and lead from x to y are taken if t has room
-unfoldable pub taken_to : At → At → ℕ → List ℕ → List ℕ → ℕ → Taken
-taken_to x y n t out fill =
-    elim (has_room out fill t) [
-      | true ↦ record { at = y; bytes = n; fill = fill + length t; out = out_after out fill t }
-      | false ↦ nothing x out fill
-    ]
-
--- bytes of one line, with its line feed or without
-unfoldable pub line_taken : Plan → At → List ℕ → List ℕ → ℕ → Taken
-line_taken p x l out fill = taken_to x (fed p x l) (length l) (fed_printed p x l) out fill
 
 -- lines one after the other, up to the first that has no room
 unfoldable pub lines_taken : Plan → At → List (List ℕ) → List ℕ → ℕ → Taken

@@ -1,3 +1,4 @@
+pub mod Standing
 pub mod Lined
 pub mod Stream
 pub mod AsFar

@@ -1,5 +1,5 @@
 // What is kept of a line that is not whole yet: no event line is longer than 20 bytes, so its first 20 are enough.
-ghost use Rattle.std.specs.Prelude.{◌≡◌, ◌++◌, min, length, take};
+ghost use Rattle.std.specs.Prelude.{◌≡◌, ◌≤◌, [], ◌++◌, length, take};
 ghost use Rattle.run.specs.Stream.{most_kept};
 ghost use Rattle.run.specs.Fed.{kept_of};
 
@@ -10,35 +10,40 @@ pub struct Kept {
     pub length: u8,
 }
 
-// How many bytes are kept.
-pub fn size_of(k: Kept) -> usize
-    ensures { result ≡ length (kept_of k) }
-{
-    let n = k.length;
-    if n < 20 { n as usize } else { 20 }
-}
-
-// The smaller of two counts.
-fn least(a: usize, b: usize) -> usize
-    ensures { result ≡ min a b }
-{
-    if a < b { a } else { b }
-}
-
-// More bytes of the line behind those that are kept, up to 20.
-pub fn keep(k: Kept, part: &[u8]) -> Kept
-    ensures { kept_of result ≡ take most_kept (kept_of k ++ part.now) }
-{
-    let mut bytes = k.bytes;
-    let n = size_of(k);
-    let count = least(20 - n, part.len());
-    let mut i = 0;
-    while i < count {
-        bytes[n + i] = part[i];
-        i += 1;
+impl Kept {
+    // No bytes.
+    pub fn nothing() -> Kept
+        ensures { kept_of result ≡ [] }
+    {
+        Kept {
+            bytes: [0; 20],
+            length: 0,
+        }
     }
-    Kept {
-        bytes,
-        length: (n + count) as u8,
+
+    // How many bytes are kept.
+    pub fn len(&self) -> usize
+        ensures count { result ≡ length (kept_of self.now) }
+        ensures upper_bound { result ≤ 20 }
+    {
+        (self.length as usize).min(20)
+    }
+
+    // The bytes that are kept.
+    pub fn as_slice(&self) -> &[u8]
+        ensures { result.now ≡ kept_of self.now }
+    {
+        let kept = &self.bytes[..self.len()];
+        kept
+    }
+
+    // More bytes of the line behind those that are kept, up to 20.
+    pub fn keep(&mut self, part: &[u8])
+        ensures { kept_of self.new ≡ take most_kept (kept_of self.old ++ part.now) }
+    {
+        let n = self.len();
+        let count = part.len().min(20 - n);
+        self.bytes[n..n + count].copy_from_slice(&part[..count]);
+        self.length = (n + count) as u8;
     }
 }

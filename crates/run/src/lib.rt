@@ -1,6 +1,9 @@
 // The run program and the admission report as library calls over slices, in whole and in pieces.
 #![tactic(auto)]
 
+ghost use Rattle.std.specs.Prelude.{◌≡◌};
+ghost use Rattle.run.specs.AsFar.{fill_of};
+
 mod kept;
 mod lines;
 mod refusal;
@@ -9,20 +12,27 @@ pub mod stream;
 mod whole;
 
 pub use lines::line_step;
-use state::State;
 pub use whole::run;
 
-// What one event line gives. number: the answer, or 33 where its printed line has no room; then state and fill are those lent.
-#[derive(Clone, Copy)]
+// What an event line gives whose printed line had room: its answer, and the fill behind the printed line.
+#[derive(Clone, Copy, PartialEq, Eq)]
 pub struct Lined {
-    pub number: u8,
-    pub state: State,
+    pub answer: u8,
     pub fill: usize,
 }
 
-// What lines written one behind the other give: the fill behind the last that had room, and whether that was the last of all.
-#[derive(Clone, Copy)]
-pub struct Ran {
+// The buffer had no room for the next line. The fill is behind the last that had room.
+#[derive(Clone, Copy, PartialEq, Eq)]
+pub struct Full {
     pub fill: usize,
-    pub whole: bool,
+}
+
+// The fill behind the last line that had room, whether that was the last of all or not.
+pub fn fill_of(r: Result<usize, Full>) -> usize
+    ensures { result ≡ fill_of r }
+{
+    match r {
+        Ok(fill) => fill,
+        Err(full) => full.fill,
+    }
 }

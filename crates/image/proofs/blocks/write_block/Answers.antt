@@ -14,7 +14,9 @@ returns-then-block-ne1108 c =
 
 pub loop-s-init : goal.loop-s-init
 unfolding block_head
-loop-s-init c = subsystems_none _ _ _ (begun_put {d = c.args.block.now} (begun_none _) _ 4 c.put.ensures (omega arith) refl)
+loop-s-init c =
+    let p = c.args.p.now in
+    subsystems_none _ p.periods p.budgets (begun_put {d = c.args.block.now} (begun_none c.args.block.now) (block_head p) 4 c.put.ensures (omega arith) refl)
 
 pub loop-s-preserved : goal.loop-s-preserved
 loop-s-preserved c =

@@ -1,5 +1,4 @@
-use Rattle.std.proofs.Common.{rules, refl, ◌∙◌}
-use borrow.Author.Tests.{tests}
+use Rattle.std.proofs.Common.{rules, refl, ◌∙◌, tests}
 use Rattle.below.proofs.Chains.{first_over}
 use Rattle.plan.specs.Ceiling.{global_ceiling}
 use Rattle.plan.specs.Parts.{declares_at}

@@ -1,5 +1,4 @@
-use Rattle.std.proofs.Common.{rules, refl}
-use borrow.Author.Tests.{tests}
+use Rattle.std.proofs.Common.{rules, refl, tests}
 use Rattle.below.proofs.Chains.{all_over}
 use Rattle.plan.proofs.Plan.lengths_fit.Goals as goal
 

@@ -1,5 +1,5 @@
 -- Past the end the definition reads 0 too.
-use mathlib.Core.Path.{sym}
+use Rattle.std.proofs.Common.{sym}
 use lib.ListN.{get_or-eq_default}
 use Rattle.plan.proofs.tables.byte_at.Goals as goal
 

@@ -1,5 +1,5 @@
 -- `run::report::report` meets its contract: what the reading says decides which lines are written.
-use mathlib.Core.Path.{sym, ◌∙◌}
+use Rattle.std.proofs.Common.{sym, ◌∙◌}
 use Rattle.reader.specs.Margin.{has_margins}
 use Rattle.run.proofs.RowsLaws.{lines_rows, lines_refused}
 use Rattle.run.proofs.report.report.Goals as goal

@@ -10,6 +10,5 @@ returns-then-not-is_accepted c =
 pub returns : goal.returns
 returns c =
     let a = c.args in
-    let g = c.rows_with-rows.ensures c.ceilings.ensures in
-    let l = accepted_lent a.plan.now a.events.now c.read-r.ensures c.is_accepted.ensures c.if-not-is_accepted.false c.fresh-s.ensures g in
-    rw (accepted_lines a.plan.now a.events.now c.read-r.ensures c.is_accepted.ensures c.if-not-is_accepted.false c.fresh-s.ensures) at (c.run_lines.ensures c.read-r.result.plan l)
+    let l = accepted_lent a.plan.now a.events.now c.read-r.ensures c.is_accepted.ensures c.if-not-is_accepted.false c.with_ceilings-c.ensures c.fresh.ensures in
+    rw (accepted_lines a.plan.now a.events.now c.read-r.ensures c.is_accepted.ensures c.if-not-is_accepted.false c.with_ceilings-c.ensures c.fresh.ensures) at (c.run_lines.ensures l)

@@ -1,91 +1,74 @@
-use mathlib.Core.Path.{◌≡◌, refl}
-use Prim.Native.Nat.{◌≤◌}
-use native.Mathlib.Omega.{arith}
-use lib.ListN.{length, drop, length-drop}
-use borrow.Author.Rules.{rules}
-use Rattle.plan.specs.declared.Plan.{Plan}
-use Rattle.step.specs.Lent.{Lent}
-use Rattle.run.specs.Lined.{lined, lined_out}
+use Rattle.std.proofs.Common.{◌≡◌, ◌≤◌, length, drop, length-drop, refl, sym, ◌∙◌, rules, arith}
+use Rattle.std.specs.Prelude.{Option, Some, None}
+use Rattle.choice.specs.Lent.{Lent}
+use Rattle.run.specs.declared.Lined.{Lined}
+use Rattle.run.specs.Lined.{lined, lined_state, lined_out}
 use Rattle.run.specs.Fed.{first_line}
-use Rattle.run.proofs.AsFarLaws.{leads_end}
+use Rattle.run.proofs.AsFarLaws.{leads_end, ok_or_some, ok_or_none, passed_on}
 use Rattle.run.proofs.FirstLines.{first_some, first_within}
-use Rattle.run.proofs.PutLines.{left_start, left_end, left_over, turn_room, turn_none, turn_legal, first_lent}
+use Rattle.run.proofs.PutLines.{left_start, left_end, left_over, turn_room, turn_none, turn_stands, first_lent}
 use Rattle.run.proofs.whole.run_lines.Goals as goal
-use Rattle.run.proofs.whole.run_lines.Goals.{After-line_end-end, After-line_step-l}
+use Rattle.run.proofs.whole.run_lines.Goals.{After-line_end-end, After-line_step}
 
-pub loop-at-init : goal.loop-at-init
-loop-at-init c =
+pub loop-number-init : goal.loop-number-init
+loop-number-init c =
     let a = c.args in
-    (omega arith, refl, λ p h. (h, left_start p a.s a.events.now a.out.now a.fill))
+    (omega arith, λ h. (record { lent = h; sized = record { left = search rules; refill = search rules; used = search rules; conditions = search rules; waits = search rules; counts = search rules; held = search rules } }, left_start a.c.now.plan a.s a.events.now a.out.now a.fill))
 
-pub returns-then-number-gt9999999 : goal.returns-then-number-gt9999999
-returns-then-number-gt9999999 c =
-    let l = c.loop-at in
-    λ p h. leads_end (rw (left_over p l.state l.number (drop l.at c.args.events.now) (omega (arith, c.if-number-gt9999999.true))) at (l.invariant.2 p h).1)
-
-pub line_end-end-requires : goal.line_end-end-requires
-line_end-end-requires c = c.loop-at-test.true
+pub returns-then-at-events : goal.returns-then-at-events
+returns-then-at-events c =
+    let l = c.loop-number in
+    λ h. leads_end (rw (left_end c.args.c.now.plan l.state l.number c.args.events.now l.at (omega (arith, c.if-at-events.true))) at (l.invariant.1 h).1)
 
 -- one turn: the next line is there, ends within the text, and is stepped as it should be
-some : (c : After-line_end-end) → 1 ≤ length (drop c.loop-at.at c.args.events.now)
-some c = rw length-drop (omega (arith, c.loop-at-test.true))
+some : (c : After-line_end-end) → 1 ≤ length (drop c.loop-number.at c.args.events.now)
+some c = rw length-drop (omega (arith, c.if-at-events.false, c.loop-number.invariant.0))
 
 within : (c : After-line_end-end) → c.line_end-end.result ≤ length c.args.events.now
 within c =
-    let at = c.loop-at.at in
+    let at = c.loop-number.at in
     let t = c.args.events.now in
-    omega (arith, c.line_end-end.ensures, first_within (drop at t), length-drop at t, c.loop-at-test.true)
+    omega (arith, c.line_end-end.ensures, first_within (drop at t), length-drop at t, c.if-at-events.false, c.loop-number.invariant.0)
 
-turn : (c : After-line_step-l)
-    → let l = c.loop-at in
+turn : (c : After-line_step)
+    → let l = c.loop-number in
     let a = c.args in
-    (p : Plan) → Lent p a.s a.rows a.lengths.now
-    → (c.line_step-l.result ≡ lined p l.state l.number (first_line (drop l.at a.events.now)) l.out l.filled)
-    × (c.line_step-l.new.out ≡ lined_out p l.state l.number (first_line (drop l.at a.events.now)) l.out l.filled)
-turn c p h =
-    let l = c.loop-at in
+    Lent a.c.now a.s
+    → (c.line_step.result ≡ lined a.c.now.plan l.state l.number (first_line (drop l.at a.events.now)) l.out l.filled)
+    × (c.line_step.new.s ≡ lined_state a.c.now.plan l.state l.number (first_line (drop l.at a.events.now)) l.out l.filled)
+    × (c.line_step.new.out ≡ lined_out a.c.now.plan l.state l.number (first_line (drop l.at a.events.now)) l.out l.filled)
+turn c h =
+    let l = c.loop-number in
     let a = c.args in
-    rw (first_lent a.events.now l.at _ c.line_end-end.ensures) at (c.line_step-l.ensures.1 p (l.invariant.2 p h).0)
-
-pub slice_bounds-line-count : goal.slice_bounds-line-count
-slice_bounds-line-count c = omega (arith, c.line_end-end.ensures)
-
-pub slice_bounds-line-start : goal.slice_bounds-line-start
-slice_bounds-line-start c = omega (arith, c.line_end-end.ensures)
+    rw (first_lent a.events.now l.at _ c.line_end-end.ensures) at (c.line_step.ensures.lined (l.invariant.1 h).0.lent)
 
 pub slice_bounds-line-end : goal.slice_bounds-line-end
 slice_bounds-line-end c = within (goal.at.slice_bounds-line-end c).After-line_end-end
 
-pub returns-then-l-filled : goal.returns-then-l-filled
-returns-then-l-filled c =
-    let l = c.loop-at in
+pub returns-in_err-l : goal.returns-in_err-l
+returns-in_err-l c h =
+    let l = c.loop-number in
     let a = c.args in
-    λ p h.
-    let e = turn (goal.at.returns-then-l-filled c).After-line_step-l p h in
-    turn_none p l.state l.number a.events.now l.at l.out l.filled (some (goal.at.returns-then-l-filled c).After-line_end-end) (omega (arith, c.if-number-gt9999999.false)) e.0 e.1 (l.invariant.2 p h).1 c.if-l-filled.true
+    let q = ok_or_none _ _ (sym c.ok_or.ensures.value ∙ c.in_err-l.was) in
+    let e = turn (goal.at.returns-in_err-l c).After-line_step h in
+    rw (passed_on c.from_residual.ensures.1 q.1)
+    (turn_none a.c.now.plan l.state l.number a.events.now l.at l.out l.filled (some (goal.at.returns-in_err-l c).After-line_end-end) (omega (arith, c.loop-number-test.true)) (l.invariant.1 h).1 (sym q.0 ∙ e.0) e.1 e.2)
 
-pub overflow_add-number : goal.overflow_add-number
-overflow_add-number c = omega (arith, c.if-number-gt9999999.false)
-
-pub loop-at-smaller : goal.loop-at-smaller
-loop-at-smaller c =
-    omega (arith, c.line_end-end.ensures, within (goal.at.loop-at-smaller c).After-line_end-end, first_some (drop c.loop-at.at c.args.events.now) (some (goal.at.loop-at-smaller c).After-line_end-end))
-
-pub loop-at-preserved : goal.loop-at-preserved
-loop-at-preserved c =
-    let l = c.loop-at in
-    let a = c.args in (
-      within (goal.at.loop-at-preserved c).After-line_end-end,
-      search rules,
-      λ p h.
-          let e = turn (goal.at.loop-at-preserved c).After-line_step-l p h in (
-            turn_legal p l.state l.number a.events.now l.at l.out l.filled (some (goal.at.loop-at-preserved c).After-line_end-end) (omega (arith, c.if-number-gt9999999.false)) e.0 e.1 a.rows a.lengths.now c.if-l-filled.false (l.invariant.2 p h).0,
+pub loop-number-preserved : goal.loop-number-preserved
+loop-number-preserved c =
+    let l = c.loop-number in
+    let a = c.args in
+    let q = ok_or_some _ _ (sym c.ok_or.ensures.value ∙ c.in_ok-l.was) in (
+      within (goal.at.loop-number-preserved c).After-line_end-end,
+      λ h.
+          let e = turn (goal.at.loop-number-preserved c).After-line_step h in (
+            turn_stands a.c.now l.state l.number a.events.now l.at l.out l.filled (sym q ∙ e.0) e.1 e.2 (l.invariant.1 h).0,
             rw c.line_end-end.ensures
-                (turn_room p l.state l.number a.events.now l.at l.out l.filled (some (goal.at.loop-at-preserved c).After-line_end-end) (omega (arith, c.if-number-gt9999999.false)) e.0 e.1 (l.invariant.2 p h).1 c.if-l-filled.false),
+                (turn_room a.c.now.plan l.state l.number a.events.now l.at l.out l.filled (some (goal.at.loop-number-preserved c).After-line_end-end) (omega (arith, c.loop-number-test.true)) (l.invariant.1 h).1 (sym q ∙ e.0) e.1 e.2),
           ),
     )
 
-pub returns : goal.returns
-returns c =
-    let l = c.loop-at in
-    λ p h. leads_end (rw (left_end p l.state l.number c.args.events.now l.at c.loop-at-test.false) at (l.invariant.2 p h).1)
+pub returns-after-loop-number : goal.returns-after-loop-number
+returns-after-loop-number c =
+    let l = c.loop-number in
+    λ h. leads_end (rw (left_over c.args.c.now.plan l.state l.number (drop l.at c.args.events.now) (omega (arith, c.loop-number-test.false))) at (l.invariant.1 h).1)

@@ -11,6 +11,6 @@ returns c =
     let e : length c.args.p.now.periods ≡ 8 = search rules in
     rw (
       listed_is 8 (λ k. record { 0 = budget c.args.p.now k }) (record { 0 = 0 }) c.map-left.result c.map-left.ensures.items.long
-      (λ k h. let at = c.map-left.ensures.items.at k 0 (record { 0 = 0 }) h in search rules),
+          (λ k h. let at = c.map-left.ensures.items.at k 0 (record { 0 = 0 }) h in search rules),
       listed_get_or 0 c.args.p.now.periods 8 e,
     )

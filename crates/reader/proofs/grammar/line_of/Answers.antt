@@ -1,8 +1,8 @@
 -- A letter, a tab, and what the letter's fields say.
 use Rattle.std.proofs.Common.{sym, ◌∙◌, arith}
 use Rattle.reader.proofs.Letters.{line_short, line_long, line_other, line_S, line_T, line_R, line_U}
-use Rattle.reader.proofs.grammar.lettered.Goals as goal
-use Rattle.reader.proofs.grammar.lettered.Goals.{then-s-lt2-via-then-s-lt2, then-s-lt2-via-else-s-lt2+then-s-ne-TAB}
+use Rattle.reader.proofs.grammar.line_of.Goals as goal
+use Rattle.reader.proofs.grammar.line_of.Goals.{then-s-lt2-via-then-s-lt2, then-s-lt2-via-else-s-lt2+then-s-ne-TAB}
 
 pub returns-then-s-lt2 : goal.returns-then-s-lt2
 returns-then-s-lt2 c =
