@@ -1,8 +1,6 @@
 // "The plan text": rows count from 0 in the order of their lines. The plan grows in place by a line that was accepted.
-#![tactic(auto, unfolding(
-    crate::specs::Reading::empty_plan, crate::specs::Reading::with_subsystem, crate::specs::Reading::with_task, crate::specs::Reading::with_resource,
-    crate::specs::Reading::with_use, crate::specs::Reading::with_line, plan::specs::Plan::place
-))]
+#![tactic(auto, unfolding(crate::specs::Reading::empty_plan, crate::specs::Reading::with_subsystem, crate::specs::Reading::with_task, crate::specs::Reading::with_resource, crate::specs::Reading::with_use, crate::specs::Reading::with_line, plan::specs::Plan::place))]
+
 ghost use Rattle.std.specs.Prelude.{◌≡◌, ◌≤◌, ◌<◌, Some};
 ghost use Rattle.plan.specs.Limits.{most_subsystems, most_tasks, most_resources};
 ghost use Rattle.reader.specs.Reading.{empty_plan, opened, with_subsystem, with_task, with_resource, with_use, with_line};

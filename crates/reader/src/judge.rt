@@ -1,9 +1,6 @@
 // "Admission", its table: what is said of one line over the plan read so far. The tests stand in the order of the table.
-#![tactic(auto, using(std::proofs::lemmas::Bool::Decides::nat_tests), unfolding(
-    crate::specs::Reading::judged, crate::specs::Judged::judged_rows, crate::specs::Reading::first_of,
-    crate::specs::Conditions::not_grammar, crate::specs::Conditions::kind_order, crate::specs::Conditions::too_many_rows, crate::specs::Conditions::no_such_row,
-    crate::specs::Conditions::out_of_range, crate::specs::Conditions::twice, crate::specs::Conditions::two_subsystems, crate::specs::Conditions::above_budget
-))]
+#![tactic(auto, using(std::proofs::lemmas::Bool::Decides::nat_tests), unfolding(crate::specs::Reading::judged, crate::specs::Judged::judged_rows, crate::specs::Reading::first_of, crate::specs::Conditions::not_grammar, crate::specs::Conditions::kind_order, crate::specs::Conditions::too_many_rows, crate::specs::Conditions::no_such_row, crate::specs::Conditions::out_of_range, crate::specs::Conditions::twice, crate::specs::Conditions::two_subsystems, crate::specs::Conditions::above_budget))]
+
 ghost use Rattle.std.specs.Prelude.{◌≡◌, ℕ, Some};
 ghost use Rattle.reader.specs.Conditions.{out_of_range, two_subsystems, above_budget};
 ghost use Rattle.reader.specs.Reading.{judged};

@@ -27,9 +27,10 @@ pub loop-b-preserved : goal.loop-b-preserved
 unfolding is_digit
 loop-b-preserved c =
     let l = c.loop-b in
-    rw add-one
-    (sym (behind_digit c.args.s.now l.b-index l.n c.loop-b-test.true (search rules)) ∙ l.invariant.0,
-      grind (arith, pow-succ' 10 l.b-index, c.is_ascii_digit.ensures))
+    rw add-one (
+      sym (behind_digit c.args.s.now l.b-index l.n c.loop-b-test.true (search rules)) ∙ l.invariant.0,
+      grind (arith, pow-succ' 10 l.b-index, c.is_ascii_digit.ensures),
+    )
 
 pub returns : goal.returns
 returns c = let l = c.loop-b in sym (behind_end c.args.s.now l.b-index l.n (omega arith)) ∙ l.invariant.0

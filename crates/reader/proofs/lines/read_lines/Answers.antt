@@ -44,8 +44,7 @@ with_line-requires c = has_room _ _ _ _ c.loop-at.invariant.1 (as_judged c.judge
 
 pub loop-at-preserved : goal.loop-at-preserved
 loop-at-preserved c =
-    let a = as_judged c.judge-v.ensures c.is_accepted.ensures c.if-not-is_accepted.false in
-    (
+    let a = as_judged c.judge-v.ensures c.is_accepted.ensures c.if-not-is_accepted.false in (
       c.loop-at.invariant.0
           ∙ read_onward _ _ _ c.find-end.ensures _ _ _ c.if-text-end.false (sym c.in-Some.is ∙ c.line_of.ensures) a
           ∙ ap₂ (read_from _ _) (sym c.kind_of-last.ensures) (sym c.with_line.ensures),
