@@ -92,3 +92,5 @@ digits_u8 n h = decimal_length 2 n (omega arith)
 -- and the row of a task
 pub digits_task : (n : ℕ) → n < 32 → length (decimal n) ≤ 2
 digits_task n h = decimal_length 1 n (omega arith)
+
+pub ruleset digit_counts = (digits_u64, digits_u32, digits_u16, digits_u8, digits_task)

@@ -9,7 +9,7 @@ ghost use Rattle.line.specs.Named.{kind_of, of_kind};
 use crate::Event;
 use text::{find, number_of};
 
-// The kind of a name, if it names one.
+// The kind of a name, if it names one. The names are compared as wholes: a match on them goes byte by byte and leaves some thirty returns to prove.
 #[tactic(auto, unfolding(crate::specs::Named::kind_of, text::specs::Bytes::bytes), using(crate::proofs::Same::same_slices))]
 fn kind_of(name: &[u8]) -> Option<u32>
     ensures { result ≡ kind_of name.now }

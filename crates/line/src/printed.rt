@@ -10,7 +10,7 @@ use crate::scratch::Scratch;
 use step::Answer;
 
 // Event number, answer, subsystem, task, tasks ended.
-#[tactic(auto, unfolding(crate::specs::Printed::answer_line, crate::specs::Printed::spaced, crate::specs::Before::parted), using(crate::proofs::Decimal::digits_u8, crate::proofs::Decimal::digits_u32))]
+#[tactic(auto, unfolding(crate::specs::Printed::answer_line, crate::specs::Printed::spaced, crate::specs::Before::parted), using(crate::proofs::Decimal::digit_counts))]
 fn compose_answer(line: &mut Scratch, number: u32, a: Answer)
     requires { line.old ≡ [] }
     ensures { line.new ≡ answer_line number a.answer a.subsystem a.task a.ended }
@@ -35,7 +35,7 @@ pub fn print(out: &mut [u8], fill: usize, number: u32, a: Answer) -> Option<usiz
 }
 
 // The word plan, the number and the number beside it.
-#[tactic(auto, unfolding(crate::specs::Printed::printed_refusal, crate::specs::Printed::spaced, crate::specs::Before::parted, text::specs::Bytes::bytes), using(crate::proofs::Decimal::digits_u32))]
+#[tactic(auto, unfolding(crate::specs::Printed::printed_refusal, crate::specs::Printed::spaced, crate::specs::Before::parted, text::specs::Bytes::bytes), using(crate::proofs::Decimal::digit_counts))]
 fn compose_refusal(line: &mut Scratch, number: u32, beside: u32)
     requires { line.old ≡ [] }
     ensures { line.new ≡ printed_refusal number beside }
@@ -58,7 +58,7 @@ pub fn print_refusal(out: &mut [u8], fill: usize, number: u32, beside: u32) -> O
 }
 
 // Row, period, budget, blocking, demand, margin.
-#[tactic(auto, unfolding(crate::specs::Reported::report_text, crate::specs::Printed::spaced, crate::specs::Before::parted), using(crate::proofs::Decimal::digits_u8, crate::proofs::Decimal::digits_u16, crate::proofs::Decimal::digits_u64))]
+#[tactic(auto, using(crate::proofs::Decimal::digit_counts))]
 fn compose_report(
     line: &mut Scratch,
     row: u8,

@@ -1,6 +1,6 @@
 // "The run program": a printed line is composed from its last byte to its first, since digits come out last first and a row of ended tasks
-// is joined from its last. The scratch has room for the longest line.
-ghost use Rattle.std.specs.Prelude.{◌≡◌, List, ℕ, [], ◌∷◌, ◌++◌, ◌+◌, ◌≤◌, ◌<◌, Bool, nat_abs, length, drop};
+// is joined from its last. The scratch has room for the longest line. It is composed by hand: a format takes more than three times as long.
+ghost use Rattle.std.specs.Prelude.{◌≡◌, List, ℕ, [], ◌∷◌, ◌++◌, ◌+◌, ◌≤◌, ◌<◌, length, drop};
 ghost use Rattle.text.specs.Numbers.{decimal};
 ghost use Rattle.line.specs.Before.{parted, joined};
 ghost use Rattle.line.specs.Printed.{row_text, ended_text, rows_onto};
@@ -62,7 +62,7 @@ impl Scratch {
         self.at = at;
     }
 
-    // A number in decimal digits in front: its last digit is written first.
+    // A number in decimal digits in front: its last digit is written first. The number is used up by tens, so that nothing is counted.
     pub fn decimal(&mut self, number: u64)
         requires { length (decimal number) + length self.old ≤ 128 }
         ensures text { self.new ≡ decimal number ++ self.old }
@@ -77,7 +77,7 @@ impl Scratch {
     }
 
     // A row in front, or a dash for none.
-    #[tactic(auto, unfolding(crate::specs::Printed::row_text, text::specs::Bytes::bytes), using(crate::proofs::Decimal::digits_u8))]
+    #[tactic(auto, unfolding(crate::specs::Printed::row_text, text::specs::Bytes::bytes), using(crate::proofs::Decimal::digit_counts))]
     pub fn row(&mut self, row: u8)
         requires { 3 + length self.old ≤ 128 }
         ensures text { self.new ≡ row_text row ++ self.old }
@@ -102,7 +102,7 @@ impl Scratch {
     }
 
     // A row of a set in front, with a comma behind it where others follow.
-    #[tactic(auto, unfolding(crate::specs::Before::joined, text::specs::Bytes::bytes), using(crate::proofs::Decimal::digits_task))]
+    #[tactic(auto, unfolding(crate::specs::Before::joined, text::specs::Bytes::bytes), using(crate::proofs::Decimal::digit_counts))]
     fn joined(&mut self, row: u32, others: bool)
         requires { (3 + length self.old ≤ 128) × (row < 32) }
         ensures { self.new ≡ joined row others ++ self.old }

@@ -61,7 +61,7 @@ impl Stream {
             return Some(fill);
         }
         let l = line_step(c, &mut self.state, number, line, out, fill)?;
-        self.number += 1;
+        self.number = number + 1;
         self.kept = Kept::nothing();
         Some(l.fill)
     }

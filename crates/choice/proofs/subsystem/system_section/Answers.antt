@@ -1,4 +1,4 @@
-use Rattle.std.proofs.Common.{◌≡◌, ◌∙◌, arith}
+use Rattle.std.proofs.Common.{◌∙◌, arith}
 use Rattle.choice.proofs.Found.{found_none, found_taken, found_kept}
 use Rattle.choice.proofs.subsystem.system_section.Goals as goal
 use Rattle.choice.proofs.subsystem.system_section.Goals.{then-l-ceiling, else-l-ceiling}
@@ -14,8 +14,3 @@ loop-k-preserved c =
       | then-l-ceiling w ↦ rw (w.ceiling-is ∙ e, w.holder-is) (found_taken _ _ _ _ _ i (omega arith))
       | else-l-ceiling w ↦ rw (w.ceiling-is, w.holder-is) (found_kept _ _ _ _ _ i (omega arith))
     ]
-
-pub returns : goal.returns
-returns c =
-    let e : c.loop-k.k ≡ c.args.c.now.plan.tasks = omega arith in
-    rw e at c.loop-k.invariant
