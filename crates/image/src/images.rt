@@ -58,7 +58,9 @@ fn subsystem_row(s: &State, c: u8) -> [u8; 8]
     let left = bytes_of(s.left_of(c).0);
     let refill = bytes_of(s.refill_of(c));
     let used = bytes_of(s.used_of(c));
-    [left[0], left[1], refill[0], refill[1], used[0], used[1], 0, 0]
+    [
+        left[0], left[1], refill[0], refill[1], used[0], used[1], 0, 0,
+    ]
 }
 
 // Condition, resource waited for, held count, four held, 0.
@@ -67,7 +69,16 @@ fn task_row(s: &State, k: u8) -> [u8; 8]
 {
     let t = s.task(k);
     let held = t.held;
-    [t.condition, t.waits, t.count, held[0], held[1], held[2], held[3], 0]
+    [
+        t.condition,
+        t.waits,
+        t.count,
+        held[0],
+        held[1],
+        held[2],
+        held[3],
+        0,
+    ]
 }
 
 // A buffer of the image's length is filled, any other is kept.

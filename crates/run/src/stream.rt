@@ -67,7 +67,13 @@ impl Stream {
     }
 
     // The end of a line, with its line feed. A line that lies whole in the piece is read where it lies, any other through the kept bytes.
-    fn end_line(&mut self, c: &CeiledPlan, part: &[u8], out: &mut [u8], fill: usize) -> Option<usize>
+    fn end_line(
+        &mut self,
+        c: &CeiledPlan,
+        part: &[u8],
+        out: &mut [u8],
+        fill: usize,
+    ) -> Option<usize>
         requires { until line_feed part.now + 1 ≡ length part.now }
         ensures within { fill ≤ length out.old → IfSome result (λ n. n ≤ length out.old) }
         ensures put { Lent c.now self.old.state → Put (at_of self.old) (fed c.now.plan (at_of self.old) part.now)
@@ -102,7 +108,14 @@ impl Stream {
 
     // Whole lines from a place of a piece on, read where they lie, while no byte is kept and the buffer is roomy. The state is altered where it lies: only
     // a line that may have no room needs the state before it, and such a line is left to feed_line.
-    fn feed_roomy(&mut self, c: &CeiledPlan, piece: &[u8], at: usize, out: &mut [u8], fill: usize) -> Fed
+    fn feed_roomy(
+        &mut self,
+        c: &CeiledPlan,
+        piece: &[u8],
+        at: usize,
+        out: &mut [u8],
+        fill: usize,
+    ) -> Fed
         requires { at ≤ length piece.now }
         ensures { (at ≤ result.taken) × Within (length piece.now) (length out.old) fill result × (Stands c.now self.old.state → Stands c.now self.new.state
             × (from_place c.now.plan (at_of self.new) piece.now result.taken out.new result.fill ≡ from_place c.now.plan (at_of self.old) piece.now at out.old fill)) }
@@ -115,7 +128,14 @@ impl Stream {
         let mut end = find(piece, at, b'\n');
         while end < piece.len() && is_roomy(self.number, out.len(), filled) {
             let number = self.number;
-            filled = line_in(c, &mut self.state, number, &piece[taken..end + 1], out, filled);
+            filled = line_in(
+                c,
+                &mut self.state,
+                number,
+                &piece[taken..end + 1],
+                out,
+                filled,
+            );
             self.number += 1;
             taken = end + 1;
             end = find(piece, taken, b'\n');

@@ -105,16 +105,7 @@ fn run_events(rt: &HostRuntime, r: Reading, file: &mut File, path: &[u8])
     let mut stream = Stream::begin(&c.plan);
     let mut out = [0u8; 65536];
     let first = Going { fill: 0, count };
-    if let Err(broken) = run_pieces(
-        rt,
-        &c,
-        &mut stream,
-        first,
-        file,
-        path,
-        &mut piece,
-        &mut out,
-    ) {
+    if let Err(broken) = run_pieces(rt, &c, &mut stream, first, file, path, &mut piece, &mut out) {
         let _ = write_out(rt, &out[..broken.fill]);
     }
 }
