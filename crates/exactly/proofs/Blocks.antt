@@ -1,11 +1,6 @@
 -- A block is the block of an accepted plan exactly when some accepted plan text has it.
-use mathlib.Core.Path.{◌≡◌, refl, sym, ap, ◌∙◌}
-use mathlib.Core.Bool.{Bool, true, false, true≢false, and-eq-true_iff}
-use mathlib.Core.List.{List}
-use Prim.Native.Nat.{ℕ, ◌+◌, ◌*◌}
-use native.Mathlib.Omega.{arith}
-use lib.ListN.{length}
-use borrow.Author.Tests.{eq-eqb}
+use Rattle.std.proofs.Common.{◌≡◌, refl, sym, ap, ◌∙◌, Bool, true, false, true≢false, List, ℕ, ◌+◌, ◌*◌, arith, length, eq-eqb}
+use mathlib.Core.Bool.{and-eq-true_iff}
 use Rattle.below.proofs.Listed.{length_listed}
 use Rattle.text.specs.Bytes.{same}
 use Rattle.plan.specs.declared.Plan.{Plan}

@@ -1,13 +1,6 @@
 -- A plan text is accepted exactly when it meets the listed conditions, and a refusal names the first one broken.
-use mathlib.Core.Path.{◌≡◌, refl, sym, ◌∙◌}
-use mathlib.Core.Bool.{Bool, true, false, true≢false}
-use mathlib.Core.List.{List}
-use Prim.Native.Nat.{ℕ, ◌≤◌, ◌<◌}
-use native.Mathlib.Nat.{not-suc-le-zero}
-use native.Mathlib.Omega.{arith}
-use lib.Dec.{ltb, eqb}
-use lib.ListN.{length}
-use borrow.Author.Tests.{ltb-true, ltb-false, eqb-true, eqb-false, ne_eqb}
+use Rattle.std.proofs.Common.{◌≡◌, refl, sym, ◌∙◌, Bool, true, false, true≢false, List, ℕ, ◌≤◌, ◌<◌, not-suc-le-zero, arith, ltb, eqb, length, ltb-true, ltb-false, eqb-true, ne_eqb}
+use borrow.Author.Tests.{eqb-false}
 use Rattle.below.proofs.Search.{first_passes, first_before}
 use Rattle.text.specs.Lines.{lines}
 use Rattle.plan.specs.declared.Plan.{Plan}

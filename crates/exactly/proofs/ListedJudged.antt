@@ -1,15 +1,6 @@
 -- A line is judged by the first condition that it breaks, and reading on stops at the first line that breaks one.
-use mathlib.Core.Path.{◌≡◌, refl, sym, ap, ◌∙◌}
-use mathlib.Core.Logic.{⊎_elim}
-use mathlib.Core.Bool.{Bool, true, false}
-use mathlib.Core.List.{List, [], ◌∷◌, ◌++◌, map}
-use Prim.Native.Nat.{ℕ, zero, suc, ◌+◌, ◌≤◌, ◌<◌}
-use native.Mathlib.Nat.{not-suc-le-zero}
-use native.Mathlib.Numerals.{add-one}
-use native.Mathlib.Omega.{arith}
-use lib.ListN.{length, take, drop, length-drop}
-use lib.Seq.{take-suc, take_all, drop-cons}
-use borrow.Author.Tests.{ne_eqb}
+use Rattle.std.proofs.Common.{◌≡◌, refl, sym, ap, ◌∙◌, ⊎_elim, Bool, true, false, List, [], ◌∷◌, ◌++◌, ℕ, zero, suc, ◌+◌, ◌≤◌, ◌<◌, not-suc-le-zero, add-one, arith, length, take, drop, length-drop, take-suc, take_all, drop-cons, ne_eqb, Option, None}
+use mathlib.Core.List.{map}
 use Rattle.below.proofs.Search.{last_or_before}
 use Rattle.plan.specs.declared.Plan.{Plan}
 use Rattle.reader.specs.declared.Verdict.{Verdict}
@@ -23,7 +14,6 @@ use Rattle.exactly.specs.Listed.{line_at, Condition, LineMeets, plan_after}
 use Rattle.exactly.proofs.ListedTied.{Tied}
 use Rattle.exactly.proofs.ListedPairs.{tied_line}
 use Rattle.exactly.proofs.ListedTests.{Decides, decides_grammar, decides_order, decides_rows_left, decides_rows_there, decides_range, decides_once, decides_one_subsystem, decides_budget}
-use Rattle.std.proofs.Common.{Option, Some, None}
 
 -- a verdict on line n that tells the first of some conditions that is broken, if one is
 pub data Judgement (C : ℕ → Type 0) (n : ℕ) : Verdict → Type 0 where

@@ -1,12 +1,5 @@
 -- The declared pairs of the plan read so far are the U lines above: kept by every line that meets its conditions.
-use mathlib.Core.Path.{◌≡◌, refl, sym, ap, ◌∙◌}
-use mathlib.Core.Logic.{◌⊎◌, inl, inr, ⊎_elim}
-use mathlib.Core.Bool.{true, false, true≢false}
-use mathlib.Core.List.{List, [], ◌∷◌, ◌++◌}
-use Prim.Native.Nat.{ℕ, ◌+◌, ◌<◌}
-use native.Mathlib.Nat.{not-suc-le-zero}
-use native.Mathlib.Omega.{arith}
-use lib.ListN.{length, length-append}
+use Rattle.std.proofs.Common.{◌≡◌, refl, sym, ap, ◌∙◌, ◌⊎◌, inl, inr, ⊎_elim, true, false, true≢false, List, [], ◌∷◌, ◌++◌, ℕ, ◌+◌, ◌<◌, not-suc-le-zero, arith, length, length-append, Option, Some, None}
 use Rattle.below.proofs.Search.{last_or_before}
 use Rattle.plan.specs.declared.Plan.{Plan}
 use Rattle.plan.specs.Plan.{length_of, declares}
@@ -18,7 +11,6 @@ use Rattle.exactly.specs.Listed.{count_of, InOrder, Condition}
 use Rattle.exactly.proofs.PlanShape.{same_or_apart, declares_not, declares_short, declares_same, resource_own, resource_else, use_own, use_else}
 use Rattle.exactly.proofs.ListedRows.{no_resource_yet, line_at_old, line_at_new}
 use Rattle.exactly.proofs.ListedTied.{use_short, Tables, UsedAt, Stands, Pairs, Tied, latest_empty, latest_line, tables_empty, tables_subsystem, tables_task, tables_resource, tables_use}
-use Rattle.std.proofs.Common.{Option, Some, None}
 
 module _ (above : List (Option Line)) (l : Option Line) (t r : ℕ) where
   long : length (above ++ (l ∷ [])) ≡ length above + 1

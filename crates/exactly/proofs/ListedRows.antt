@@ -1,18 +1,11 @@
 -- Laws of the rows of some lines: what one more line at the end changes, and what it keeps.
-use mathlib.Core.Path.{◌≡◌, refl, sym, ap, ◌∙◌}
-use mathlib.Core.Bool.{Bool, true, false}
-use mathlib.Core.List.{List, [], ◌∷◌, ◌++◌}
-use Prim.Native.Nat.{ℕ, zero, suc, ◌+◌, ◌<◌}
-use native.Mathlib.Omega.{arith}
-use lib.Dec.{eqb}
-use lib.ListN.{length, get_or-append}
+use Rattle.std.proofs.Common.{◌≡◌, refl, sym, ap, ◌∙◌, Bool, true, false, List, [], ◌∷◌, ◌++◌, ℕ, zero, suc, ◌+◌, ◌<◌, arith, eqb, length, eqb-true, eq-eqb, ne_eqb, Option, Some, None}
+use lib.ListN.{get_or-append}
 use lib.Seq.{get_or-append_seam}
-use borrow.Author.Tests.{eqb-true, eq-eqb, ne_eqb}
 use Rattle.reader.specs.declared.Line.{Line}
 use Rattle.reader.specs.declared.Line.TheVariants.{Task}
 use Rattle.reader.specs.Line.{kind_of}
 use Rattle.exactly.specs.Listed.{line_at, count_of, row_of, InOrder}
-use Rattle.std.proofs.Common.{Option, Some, None}
 
 module _ (kind : ℕ) (l : Option Line) (ls : List (Option Line)) where
   -- the first line is of the kind

@@ -1,12 +1,7 @@
 -- Each test of a line is true exactly when the line breaks its condition, over a plan that is tied to the lines above.
-use mathlib.Core.Path.{◌≡◌, refl, sym, ap, ◌∙◌}
-use mathlib.Core.Bool.{Bool, true, false, not, ◌&&◌, ◌||◌, cond, true≢false, false≢true, and-eq-true_iff}
-use mathlib.Core.List.{List}
-use Prim.Native.Nat.{ℕ, ◌≤◌, ◌<◌}
-use native.Mathlib.Omega.{arith}
-use lib.Dec.{leb, eqb}
-use lib.ListN.{length}
-use borrow.Author.Tests.{ltb-true, ltb-false, leb-true, leb-false, eqb-true, eqb-false, not-true, not-false}
+use Rattle.std.proofs.Common.{◌≡◌, refl, sym, ◌∙◌, Bool, true, false, not, ◌&&◌, ◌||◌, cond, true≢false, List, ℕ, ◌≤◌, ◌<◌, arith, leb, eqb, length, ltb-true, ltb-false, leb-true, leb-false, eqb-true, Option, Some, None}
+use mathlib.Core.Bool.{false≢true, and-eq-true_iff}
+use borrow.Author.Tests.{eqb-false, not-true, not-false}
 use Rattle.below.specs.Below.{any}
 use Rattle.below.proofs.Search.{any_true, any_false}
 use Rattle.plan.specs.declared.Plan.{Plan}
@@ -17,7 +12,6 @@ use Rattle.reader.specs.Line.{kind_of}
 use Rattle.reader.specs.Conditions.{not_grammar, kind_order, too_many_rows, no_such_row, out_of_range, twice, two_subsystems, above_budget}
 use Rattle.exactly.specs.Listed.{line_at, count_of, row_of, budget_said, owner_said, Global, OfGrammar, InOrder, RowsLeft, RowsThere, InRange, Once, FromOneSubsystem, WithinBudget}
 use Rattle.exactly.proofs.ListedTied.{said_global, said_local, Stands, Tied}
-use Rattle.std.proofs.Common.{Option, Some, None}
 
 -- a test that is true exactly when a condition is broken
 pub record Decides (b : Bool) (A : Type 0) : Type 0 where

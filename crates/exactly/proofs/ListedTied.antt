@@ -1,15 +1,7 @@
 -- The plan read so far against the lines above: its counts and tables are what the lines say, its declared pairs are the U lines.
-use mathlib.Core.Path.{◌≡◌, refl, sym, ap, ◌∙◌}
-use mathlib.Core.Logic.{⊎_elim}
-use mathlib.Core.Bool.{Bool, true, false, false≢true}
-use mathlib.Core.List.{List, [], ◌∷◌, ◌++◌}
-use Prim.Native.Nat.{ℕ, ◌≤◌, ◌<◌}
-use native.Mathlib.Nat.{not-suc-le-zero}
-use native.Mathlib.Omega.{arith}
-use lib.Dec.{eqb}
-use lib.ListN.{length, get_or, set, length-append}
-use lib.Seq.{get_or-set_same, get_or-set_other}
-use borrow.Author.Tests.{eqb-true, eqb-false}
+use Rattle.std.proofs.Common.{◌≡◌, refl, sym, ap, ◌∙◌, ⊎_elim, Bool, true, false, List, [], ◌∷◌, ◌++◌, ℕ, ◌≤◌, ◌<◌, not-suc-le-zero, arith, eqb, length, get_or, set, length-append, get_or-set_same, get_or-set_other, eqb-true, Option, Some, None}
+use mathlib.Core.Bool.{false≢true}
+use borrow.Author.Tests.{eqb-false}
 use Rattle.below.proofs.Search.{last_or_before}
 use Rattle.plan.specs.declared.Plan.{Plan}
 use Rattle.plan.specs.Plan.{declares}
@@ -20,7 +12,6 @@ use Rattle.reader.specs.Reading.{empty_plan, with_subsystem, with_task, with_res
 use Rattle.exactly.specs.Listed.{line_at, count_of, row_of, budget_said, owner_said, InOrder, InRange}
 use Rattle.exactly.proofs.PlanShape.{zeros, Shaped, shaped_empty, shaped_line}
 use Rattle.exactly.proofs.ListedRows.{count_of_same, count_of_other, row_of_new, row_of_kept, line_at_old, line_at_new}
-use Rattle.std.proofs.Common.{Option, Some, None}
 
 -- what an R line says
 unfoldable pub kind_said : Option Line → ℕ

@@ -1,15 +1,8 @@
 -- The plan read so far: its lists keep their lengths, a place belongs to one pair, and what a new resource does to the lengths.
-use mathlib.Core.Path.{◌≡◌, refl, ◌∙◌}
-use mathlib.Core.Logic.{◌⊎◌, inl, inr, ⊎_elim}
-use mathlib.Core.Bool.{Bool, true, false}
-use mathlib.Core.List.{List}
-use Prim.Native.Nat.{ℕ, zero, suc, ◌≤◌, ◌<◌}
-use native.Mathlib.Nat.{not-suc-le-zero, le_step, lt-suc_self}
-use native.Mathlib.Omega.{arith}
-use lib.Dec.{eqb}
-use lib.ListN.{length, get_or, set, length-set, replicate, length-replicate}
-use lib.Seq.{get_or-set_same, get_or-set_other}
-use borrow.Author.Tests.{eqb-true, eqb-false, ne_eqb}
+use Rattle.std.proofs.Common.{◌≡◌, refl, ◌∙◌, ◌⊎◌, inl, inr, ⊎_elim, Bool, true, false, List, ℕ, zero, suc, ◌≤◌, ◌<◌, not-suc-le-zero, lt-suc_self, arith, eqb, length, get_or, set, length-set, replicate, get_or-set_same, get_or-set_other, eqb-true, ne_eqb, Option, Some, None}
+use native.Mathlib.Nat.{le_step}
+use lib.ListN.{length-replicate}
+use borrow.Author.Tests.{eqb-false}
 use Rattle.below.proofs.Search.{last_or_before}
 use Rattle.plan.specs.declared.Plan.{Plan}
 use Rattle.plan.specs.Limits.{undeclared}
@@ -17,7 +10,6 @@ use Rattle.plan.specs.Plan.{place, length_of, declares}
 use Rattle.reader.specs.declared.Line.{Line}
 use Rattle.reader.specs.declared.Line.TheVariants.{Subsystem, Task, Resource, Uses}
 use Rattle.reader.specs.Reading.{empty_plan, opened, with_subsystem, with_task, with_resource, with_use, with_line}
-use Rattle.std.proofs.Common.{Option, Some, None}
 
 -- the lists of a plan are as long as its tables
 pub record Shaped (p : Plan) : Type 0 where

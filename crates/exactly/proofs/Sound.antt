@@ -1,12 +1,7 @@
 -- The plan of an accepted text is an accepted plan: its tables are of their lengths, and its entries are small.
-use mathlib.Core.Path.{◌≡◌, refl}
-use mathlib.Core.Bool.{true}
-use mathlib.Core.List.{List, [], ◌∷◌, ◌++◌}
-use Prim.Native.Nat.{ℕ, zero, suc, ◌≤◌, ◌<◌}
-use native.Mathlib.Nat.{le_of_lt}
-use native.Mathlib.Omega.{arith}
-use lib.ListN.{length, get_or, take, get_or-map}
-use lib.Seq.{take-suc, take-length}
+use Rattle.std.proofs.Common.{◌≡◌, refl, true, List, [], ◌∷◌, ◌++◌, ℕ, zero, suc, ◌≤◌, ◌<◌, le_of_lt, arith, length, get_or, take, take-suc, Option, None}
+use lib.ListN.{get_or-map}
+use lib.Seq.{take-length}
 use Rattle.text.specs.Lines.{lines, body}
 use Rattle.plan.specs.Accepted.{accepted}
 use Rattle.reader.specs.declared.Line.{Line}
@@ -23,7 +18,6 @@ use Rattle.exactly.proofs.SoundPlan.{Sound, sound_accepted}
 use Rattle.exactly.proofs.SoundFacts.{Ranged, sound_ranged}
 use Rattle.exactly.proofs.SoundLines.{sound_empty, sound_line}
 use Rattle.exactly.proofs.SoundKinds.{kind_of_line}
-use Rattle.std.proofs.Common.{Option, Some, None}
 
 -- the plan of some lines that meet their conditions
 record Built (ls : List (Option Line)) : Type 0 where

@@ -1,16 +1,12 @@
 -- An R line says local or global and nothing else.
-use mathlib.Core.Bool.{Bool, true, false}
-use mathlib.Core.List.{List, [], ◌∷◌}
-use Prim.Native.Nat.{ℕ, ◌≤◌}
-use native.Mathlib.Omega.{arith}
+use Rattle.std.proofs.Common.{Bool, true, false, List, [], ◌∷◌, ℕ, ◌≤◌, arith, Option, Some, None}
 use Rattle.text.specs.Bytes.{bytes, same}
 use Rattle.text.specs.Lines.{body, fields}
 use Rattle.text.specs.Numbers.{numbers, of_one, of_two, of_three}
 use Rattle.reader.specs.declared.Line.{Line}
-use Rattle.reader.specs.declared.Line.TheVariants.{Subsystem, Task, Resource, Uses}
+use Rattle.reader.specs.declared.Line.TheVariants.{Resource}
 use Rattle.reader.specs.Line.{as_subsystem, as_task, as_uses, of_numbers, of_kind, of_kind_field, of_fields, line_of}
 use Rattle.exactly.proofs.ListedTied.{kind_said}
-use Rattle.std.proofs.Common.{Option, Some, None}
 
 -- a line of numbers, where none of the lines made of numbers is an R line
 kind_of_numbers : (f : List ℕ → Option Line) (fs : List (List ℕ)) → ((ns : List ℕ) → kind_said (f ns) ≤ 1) → kind_said (of_numbers f fs) ≤ 1

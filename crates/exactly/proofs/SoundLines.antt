@@ -1,13 +1,5 @@
 -- The facts of an accepted plan hold of the plan read so far: kept by every line that meets its conditions.
-use mathlib.Core.Path.{◌≡◌, refl, sym, ◌∙◌}
-use mathlib.Core.Logic.{◌⊎◌, inl, inr, ⊎_elim}
-use mathlib.Core.Bool.{true, false, true≢false}
-use mathlib.Core.List.{List}
-use Prim.Native.Nat.{ℕ, ◌+◌, ◌≤◌, ◌<◌}
-use native.Mathlib.Nat.{not-suc-le-zero}
-use native.Mathlib.Omega.{arith}
-use lib.ListN.{length, get_or, set, replicate}
-use lib.Seq.{get_or-set_same, get_or-set_other}
+use Rattle.std.proofs.Common.{◌≡◌, refl, sym, ◌∙◌, ◌⊎◌, inl, inr, ⊎_elim, true, false, true≢false, List, ℕ, ◌+◌, ◌≤◌, ◌<◌, not-suc-le-zero, arith, length, get_or, set, replicate, get_or-set_same, get_or-set_other, Option, Some, None}
 use Rattle.below.proofs.Search.{last_or_before}
 use Rattle.plan.specs.declared.Plan.{Plan}
 use Rattle.plan.specs.Plan.{budget, owner, is_global, place, length_of, declares}
@@ -20,7 +12,6 @@ use Rattle.exactly.proofs.ListedRows.{no_resource_yet}
 use Rattle.exactly.proofs.ListedTied.{kind_said, Stands, Tied}
 use Rattle.exactly.proofs.ListedTests.{global_met, local_met}
 use Rattle.exactly.proofs.SoundPlan.{RowsFit, PeriodFits, BudgetFits, OwnerFits, KindFits, LengthFits, UsesFit, Sound}
-use Rattle.std.proofs.Common.{Option, Some, None}
 
 -- the tables
 

@@ -1,10 +1,5 @@
 -- The plan read so far in plain facts: what holds of its subsystems, tasks, kinds and pairs. With a subsystem and no negative margin it is accepted.
-use mathlib.Core.Path.{◌≡◌}
-use mathlib.Core.Bool.{true, false}
-use mathlib.Core.List.{List}
-use Prim.Native.Nat.{ℕ, ◌≤◌, ◌<◌}
-use native.Mathlib.Omega.{arith}
-use lib.ListN.{get_or}
+use Rattle.std.proofs.Common.{◌≡◌, true, false, List, ℕ, ◌≤◌, ◌<◌, arith, get_or}
 use Rattle.plan.specs.declared.Plan.{Plan}
 use Rattle.plan.specs.Plan.{period, budget, owner, is_global, length_of, declares}
 use Rattle.plan.specs.Admission.{demand}

@@ -1,11 +1,5 @@
 -- The lines that are written read back: each is one line of the text, and says what was meant.
-use mathlib.Core.Path.{◌≡◌, refl}
-use mathlib.Core.Bool.{false}
-use mathlib.Core.List.{List, [], ◌∷◌, ◌++◌, append-nil}
-use Prim.Native.Nat.{ℕ, ◌≤◌}
-use native.Mathlib.Omega.{arith}
-use lib.Dec.{eqb}
-use borrow.Author.Tests.{ne_eqb}
+use Rattle.std.proofs.Common.{◌≡◌, refl, false, List, [], ◌∷◌, ◌++◌, append-nil, ℕ, ◌≤◌, arith, eqb, ne_eqb, Some}
 use Rattle.text.specs.Bytes.{bytes, same}
 use Rattle.text.specs.Lines.{lines, onto, body, empty_or_none, fields}
 use Rattle.text.specs.Numbers.{numbers, decimal, of_one, of_two, of_three}
@@ -13,7 +7,6 @@ use Rattle.reader.specs.declared.Line.TheVariants.{Subsystem, Task, Resource, Us
 use Rattle.reader.specs.Line.{of_numbers, of_kind, of_kind_field, of_fields, line_of}
 use Rattle.exactly.specs.TextOf.{tabbed}
 use Rattle.exactly.proofs.TextOfDecimal.{Plain, decimal_number}
-use Rattle.std.proofs.Common.{Option, Some, None}
 
 -- a text that is one line, with this body
 pub record OneLine (l b : List ℕ) : Type 0 where

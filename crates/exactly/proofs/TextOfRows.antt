@@ -1,12 +1,6 @@
 -- The S, T and R lines of a plan's text read back: the plan after some of them is the plan cut to those rows.
-use mathlib.Core.Path.{◌≡◌, refl, sym, ap, ◌∙◌}
-use mathlib.Core.Bool.{Bool, true, false}
-use mathlib.Core.List.{List, [], ◌∷◌}
-use Prim.Native.Nat.{ℕ, suc, ◌≤◌, ◌<◌}
-use native.Mathlib.Numerals.{add-one}
-use native.Mathlib.Omega.{arith}
-use lib.ListN.{get_or}
-use borrow.Author.Tests.{le-ltb, le-leb, lt-leb, eqb-true, eqb-false}
+use Rattle.std.proofs.Common.{◌≡◌, refl, sym, ap, ◌∙◌, Bool, true, false, List, [], ◌∷◌, ℕ, suc, ◌≤◌, ◌<◌, add-one, arith, get_or, le-ltb, le-leb, eqb-true, Option, Some}
+use borrow.Author.Tests.{lt-leb, eqb-false}
 use Rattle.text.specs.Bytes.{bytes}
 use Rattle.text.specs.Numbers.{decimal}
 use Rattle.plan.specs.declared.Plan.{Plan}
@@ -22,7 +16,6 @@ use Rattle.exactly.proofs.TextOfDecimal.{Plain, decimal_plain}
 use Rattle.exactly.proofs.TextOfLines.{AllPlain, one_line, line_of_lem, subsystem_line, task_line, local_line, global_line}
 use Rattle.exactly.proofs.TextOfReads.{Reads, reads_texts, reads_line, Passes}
 use Rattle.exactly.proofs.TextOfTables.{copied, copied_whole, opened_to}
-use Rattle.std.proofs.Common.{Option, Some, None}
 
 -- a plan cut to its first i subsystems, or to these and its first i tasks, or to all but the lengths of all but its first i resources
 unfoldable pub subsystems_to : Plan → ℕ → Plan

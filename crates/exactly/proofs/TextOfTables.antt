@@ -1,12 +1,6 @@
 -- The tables of the plan read so far, where the lines read are those of a plan's text: each is copied row by row.
-use mathlib.Core.Path.{◌≡◌, sym, ◌∙◌}
-use mathlib.Core.Logic.{⊎_elim}
-use mathlib.Core.List.{List}
-use Prim.Native.Nat.{ℕ, zero, suc, ◌≤◌, ◌<◌}
-use native.Mathlib.Nat.{not-suc-le-zero, le_of_lt}
-use native.Mathlib.Omega.{arith}
-use lib.ListN.{length, get_or, set, length-set, replicate, length-replicate}
-use lib.Seq.{get_or-set_same, get_or-set_other, ext_get_or}
+use Rattle.std.proofs.Common.{◌≡◌, sym, ◌∙◌, ⊎_elim, List, ℕ, zero, suc, ◌≤◌, ◌<◌, not-suc-le-zero, le_of_lt, arith, length, get_or, set, length-set, replicate, get_or-set_same, get_or-set_other, ext_get_or}
+use lib.ListN.{length-replicate}
 use Rattle.below.proofs.Search.{last_or_before}
 use Rattle.plan.specs.Limits.{undeclared}
 use Rattle.plan.specs.Plan.{place}

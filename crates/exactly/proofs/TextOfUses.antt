@@ -1,15 +1,7 @@
 -- The U lines of a plan's text read back: each passes, and what is left out was undeclared already.
-use mathlib.Core.Path.{◌≡◌, refl, sym, ap, ◌∙◌}
-use mathlib.Core.Logic.{⊎_elim}
-use mathlib.Core.Bool.{Bool, true, false, not, ◌&&◌, cond}
-use mathlib.Core.List.{List, [], ◌∷◌}
-use Prim.Native.Nat.{ℕ, suc, ◌≤◌, ◌<◌}
-use native.Mathlib.Nat.{le_of_lt}
-use native.Mathlib.Omega.{arith}
-use lib.Dec.{leb, eqb}
-use lib.ListN.{get_or, set}
+use Rattle.std.proofs.Common.{◌≡◌, refl, sym, ap, ◌∙◌, ⊎_elim, Bool, true, false, not, ◌&&◌, cond, List, [], ◌∷◌, ℕ, suc, ◌≤◌, ◌<◌, le_of_lt, arith, leb, eqb, get_or, set, le-ltb, le-leb, eq-eqb, eqb-true, Some}
 use lib.Seq.{set-get_or}
-use borrow.Author.Tests.{le-ltb, le-leb, lt-leb, eq-eqb, eqb-true, not-false}
+use borrow.Author.Tests.{lt-leb, not-false}
 use Rattle.below.specs.Below.{any}
 use Rattle.below.proofs.Search.{any_absent}
 use Rattle.text.specs.Bytes.{bytes}
@@ -19,7 +11,6 @@ use Rattle.plan.specs.Limits.{undeclared}
 use Rattle.plan.specs.Plan.{budget, owner, is_global, place, length_of, declares}
 use Rattle.plan.proofs.Facts.{row_there}
 use Rattle.reader.specs.declared.Line.TheVariants.{Uses}
-use Rattle.std.proofs.Common.{Some}
 use Rattle.reader.specs.Line.{kind_of}
 use Rattle.reader.specs.Conditions.{not_grammar, kind_order, too_many_rows, no_such_row, out_of_range, twice, two_subsystems, above_budget}
 use Rattle.reader.specs.Reading.{with_line, with_use}

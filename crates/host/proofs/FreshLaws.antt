@@ -1,11 +1,10 @@
 -- The ends of the call fresh.
-use Rattle.std.proofs.Common.{◌≡◌, ℕ, Bool, true, false, ◌&&◌, List, length, eqb, Result, Ok, Err, refl, sym, ap, ◌∙◌}
+use Rattle.std.proofs.Common.{◌≡◌, ℕ, Bool, true, false, List, length, eqb, Result, Ok, Err, refl, sym, ap, ◌∙◌, eq-eqb, ne_eqb}
 use mathlib.Core.Bool.{and-false}
-use borrow.Author.Tests.{eqb-true, eq-eqb, ne_eqb}
 use Rattle.plan.specs.declared.Plan.{Plan}
 use Rattle.state.specs.Fresh.{fresh}
 use Rattle.image.specs.declared.Unopened.{Unopened}
-use Rattle.image.specs.declared.Unopened.TheVariants.{Length, Block, Image}
+use Rattle.image.specs.declared.Unopened.TheVariants.{Length, Block}
 use Rattle.image.specs.Numbers.{number_of}
 use Rattle.image.specs.Block.{block_bytes, is_block, plan_of}
 use Rattle.image.specs.BlockCalls.{block_read}

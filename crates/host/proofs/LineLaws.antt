@@ -1,6 +1,5 @@
 -- The three ends of the call line.
-use Rattle.std.proofs.Common.{◌≡◌, ℕ, ◌+◌, Bool, true, false, List, length, Option, Some, None, refl, sym, ap, ◌∙◌}
-use borrow.Author.Tests.{ne_eqb}
+use Rattle.std.proofs.Common.{◌≡◌, ℕ, ◌+◌, Bool, true, false, List, length, Option, Some, None, refl, sym, ap, ◌∙◌, ne_eqb}
 use Rattle.plan.specs.declared.CeiledPlan.{CeiledPlan}
 use Rattle.state.specs.declared.State.{State}
 use Rattle.step.specs.declared.Outcome.{Outcome}

@@ -1,6 +1,5 @@
 -- What is known once a block and an image were opened together.
-use Rattle.std.proofs.Common.{◌≡◌, ℕ, Bool, true, false, List, length, Result, Ok, Err, refl, sym, ap, ◌∙◌, arith}
-use borrow.Author.Tests.{eq-eqb, eqb-true}
+use Rattle.std.proofs.Common.{◌≡◌, ℕ, Bool, true, false, List, length, Result, Ok, Err, refl, sym, ap, ◌∙◌, arith, eq-eqb, eqb-true}
 use Rattle.below.proofs.Tests.{conjuncts}
 use Rattle.plan.specs.Accepted.{accepted}
 use Rattle.plan.specs.Ceiled.{ceiled}

@@ -1,6 +1,5 @@
 -- The two ends of the call step.
-use Rattle.std.proofs.Common.{◌≡◌, ℕ, List, ap, sym, ◌∙◌}
-use borrow.Author.Tests.{ne_eqb}
+use Rattle.std.proofs.Common.{◌≡◌, ℕ, List, ap, ne_eqb}
 use Rattle.plan.specs.declared.CeiledPlan.{CeiledPlan}
 use Rattle.state.specs.declared.State.{State}
 use Rattle.step.specs.declared.Answer.{Answer}

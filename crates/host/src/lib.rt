@@ -31,6 +31,7 @@ pub fn skrzypolot_read(text: &[u8], block: &mut [u8], beside: &mut u32) -> u32
 }
 
 // The margin of a row of a plan text: 0 and the margin, or a refusal with the number beside it in the margin's place.
+#[tactic(auto, unfolding(crate::specs::Margin::margin_call))]
 pub fn skrzypolot_margin(text: &[u8], row: u32, margin: &mut i64) -> u32
     ensures { margin_left result margin.new ≡ margin_call text.now row }
 {

@@ -1,14 +1,8 @@
 -- The plan block both ways: what a block reads as is written as the block again, and a plan's block reads as the plan.
-use mathlib.Core.Path.{◌≡◌, refl, sym, ap, ap₂, ◌∙◌}
-use mathlib.Core.Bool.{Bool, true, false, ◌&&◌, true≢false, and-eq-true_iff}
-use mathlib.Core.List.{List, [], ◌∷◌, ◌++◌}
-use Prim.Native.Nat.{ℕ, ◌+◌, ◌*◌, ◌<◌}
-use native.Mathlib.Nat.{add_assoc}
-use native.Mathlib.Omega.{arith}
-use lib.Dec.{eqb}
-use lib.ListN.{length, get_or, drop, length-drop, get_or-append}
-use lib.Seq.{take_all, drop-drop, drop_at, get_or-drop}
-use borrow.Author.Tests.{eqb-true, eqb-false, eq-eqb, ne_eqb}
+use Rattle.std.proofs.Common.{◌≡◌, refl, sym, ap, ap₂, ◌∙◌, Bool, true, false, ◌&&◌, true≢false, List, [], ◌∷◌, ◌++◌, ℕ, ◌+◌, ◌*◌, ◌<◌, add_assoc, arith, eqb, length, get_or, drop, length-drop, take_all, drop-drop, drop_at, get_or-drop, eqb-true, eq-eqb, ne_eqb}
+use mathlib.Core.Bool.{and-eq-true_iff}
+use lib.ListN.{get_or-append}
+use borrow.Author.Tests.{eqb-false}
 use Rattle.below.specs.Listed.{listed}
 use Rattle.below.proofs.Listed.{listed_is}
 use Rattle.text.specs.Bytes.{same}

@@ -1,11 +1,6 @@
 -- The image of a state: its length, what stands at each place of it, and that it reads as the state again.
-use mathlib.Core.Path.{◌≡◌, refl, sym, ap, ◌∙◌}
-use mathlib.Core.List.{List, [], ◌∷◌}
-use Prim.Native.Nat.{ℕ, ◌+◌, ◌*◌, ◌/◌, ◌%◌, ◌<◌}
-use native.Mathlib.Nat.{add_assoc, add-zero}
-use native.Mathlib.Omega.{arith}
-use lib.ListN.{length, get_or, length-append, get_or-append}
-use lib.Seq.{get_or-drop, get_or-append-add}
+use Rattle.std.proofs.Common.{◌≡◌, refl, sym, ap, ◌∙◌, List, [], ◌∷◌, ℕ, ◌+◌, ◌*◌, ◌/◌, ◌%◌, ◌<◌, add_assoc, add-zero, arith, length, get_or, length-append, get_or-drop, get_or-append-add}
+use lib.ListN.{get_or-append}
 use Rattle.below.specs.Listed.{listed, listed_onto}
 use Rattle.below.proofs.Listed.{get_or_listed, listed_is}
 use Rattle.plan.specs.Limits.{most_subsystems, most_tasks, no_row}

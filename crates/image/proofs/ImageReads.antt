@@ -1,13 +1,5 @@
 -- What is read from 320 bytes is written as the same bytes again, exactly where the bytes that are 0 in every image are 0.
-use mathlib.Core.Path.{◌≡◌, sym, ap, ap₂, ◌∙◌}
-use mathlib.Core.Bool.{Bool, true, ◌&&◌}
-use mathlib.Core.List.{List, [], ◌∷◌, ◌++◌}
-use Prim.Native.Nat.{ℕ, ◌+◌, ◌*◌, ◌/◌, ◌%◌, ◌<◌}
-use native.Mathlib.Nat.{add_assoc, add-zero, zero-add}
-use native.Mathlib.Omega.{arith}
-use lib.ListN.{length, get_or, take, drop, length-drop, take-append-drop}
-use lib.Seq.{take_all}
-use borrow.Author.Tests.{eqb-true, eq-eqb}
+use Rattle.std.proofs.Common.{◌≡◌, sym, ap, ap₂, ◌∙◌, Bool, true, ◌&&◌, List, [], ◌∷◌, ◌++◌, ℕ, ◌+◌, ◌*◌, ◌/◌, ◌%◌, ◌<◌, add_assoc, add-zero, zero-add, arith, length, get_or, take, drop, length-drop, take-append-drop, take_all, eqb-true, eq-eqb}
 use Rattle.below.specs.Below.{all}
 use Rattle.below.specs.Listed.{listed, listed_onto}
 use Rattle.below.proofs.Listed.{length_listed, get_or_listed, listed_agree}

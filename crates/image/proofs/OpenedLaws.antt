@@ -1,7 +1,6 @@
 -- The ends of opening a block with an image, and what is known of what was read.
-use Rattle.std.proofs.Common.{◌≡◌, ℕ, ◌<◌, Bool, true, false, ◌&&◌, List, length, get_or, eqb, Result, Ok, Err, refl, sym, ap, ap₂, ◌∙◌, arith}
+use Rattle.std.proofs.Common.{◌≡◌, ℕ, ◌<◌, Bool, true, false, List, length, get_or, eqb, Result, Ok, Err, refl, sym, ap, ap₂, ◌∙◌, eqb-true, eq-eqb, ne_eqb}
 use mathlib.Core.Bool.{and-false}
-use borrow.Author.Tests.{eqb-true, eq-eqb, ne_eqb}
 use Rattle.below.specs.Listed.{listed}
 use Rattle.below.proofs.Tests.{and_left}
 use Rattle.plan.specs.declared.Plan.{Plan}

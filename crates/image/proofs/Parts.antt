@@ -1,11 +1,5 @@
 -- What is read from a list of bytes, written again, is that part of the list.
-use mathlib.Core.Path.{◌≡◌, refl, sym, ap, ap₂, ◌∙◌}
-use mathlib.Core.List.{List, [], ◌∷◌, ◌++◌, append_assoc}
-use Prim.Native.Nat.{ℕ, zero, suc, ◌+◌, ◌*◌, ◌/◌, ◌%◌, ◌≤◌, ◌<◌}
-use native.Mathlib.Nat.{add_assoc}
-use native.Mathlib.Omega.{arith}
-use lib.ListN.{length, get_or, take, drop, length-take, length-drop, take-append-drop}
-use lib.Seq.{take-suc, drop-drop, get_or-drop, get_or-take}
+use Rattle.std.proofs.Common.{◌≡◌, refl, sym, ap, ap₂, ◌∙◌, List, [], ◌∷◌, ◌++◌, append_assoc, ℕ, zero, suc, ◌+◌, ◌*◌, ◌/◌, ◌%◌, ◌≤◌, ◌<◌, add_assoc, arith, length, get_or, take, drop, length-take, length-drop, take-append-drop, take-suc, drop-drop, get_or-drop, get_or-take}
 use Rattle.below.specs.Listed.{listed, listed_onto}
 use Rattle.below.proofs.Listed.{length_listed, listed_suc, listed_is}
 use Rattle.image.specs.Words.{word, words, byte_at, word_at}

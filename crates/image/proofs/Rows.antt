@@ -1,11 +1,6 @@
 -- Rows of eight bytes one behind the other: their length, the row and the byte that stand at a place, and a list that is cut into rows.
-use mathlib.Core.Path.{◌≡◌, refl, sym, ap, ◌∙◌}
-use mathlib.Core.Logic.{⊎_elim}
-use mathlib.Core.List.{List, [], ◌∷◌, ◌++◌, append_assoc, append-nil}
-use Prim.Native.Nat.{ℕ, zero, suc, ◌+◌, ◌*◌, ◌<◌}
-use native.Mathlib.Omega.{arith}
-use lib.ListN.{length, get_or, take, drop, length-append, length-drop}
-use lib.Seq.{take_all, take-append-le, drop-append-le, drop_at, drop-drop, take-add, get_or-drop, get_or-take}
+use Rattle.std.proofs.Common.{◌≡◌, refl, sym, ap, ◌∙◌, ⊎_elim, List, [], ◌∷◌, ◌++◌, append_assoc, append-nil, ℕ, zero, suc, ◌+◌, ◌*◌, ◌<◌, arith, length, get_or, take, drop, length-append, length-drop, take_all, drop_at, drop-drop, take-add, get_or-drop, get_or-take}
+use lib.Seq.{take-append-le, drop-append-le}
 use Rattle.below.specs.Listed.{listed, listed_onto}
 use Rattle.below.proofs.Listed.{listed_suc}
 use Rattle.below.proofs.Search.{last_or_before}

@@ -1,12 +1,7 @@
 -- Laws of numbers of 16 bits in lists of bytes: where the two bytes of each stand in the sections of a block, and how they are read there.
-use mathlib.Core.Path.{◌≡◌, refl, sym, ap, ap₂, ◌∙◌}
-use mathlib.Core.List.{List, [], ◌∷◌, ◌++◌}
-use Prim.Native.Nat.{ℕ, zero, suc, ◌+◌, ◌*◌, ◌/◌, ◌%◌, ◌≤◌, ◌<◌}
-use native.Mathlib.Nat.{add_assoc, mod-add-div, le_of_suc-le-suc, not-suc-le-zero, mul-suc, mul-le-mul_left}
-use native.Mathlib.Numerals.{add-one}
-use native.Mathlib.Omega.{arith}
-use lib.ListN.{length, get_or, set, drop, get_or-append}
-use lib.Seq.{paste, paste-suc, get_or-drop}
+use Rattle.std.proofs.Common.{◌≡◌, refl, sym, ◌∙◌, List, [], ◌∷◌, ◌++◌, ℕ, zero, suc, ◌+◌, ◌*◌, ◌/◌, ◌%◌, ◌<◌, add_assoc, le_of_suc-le-suc, not-suc-le-zero, add-one, arith, length, get_or, drop, get_or-drop}
+use native.Mathlib.Nat.{mod-add-div}
+use lib.ListN.{get_or-append}
 use Rattle.image.specs.Words.{word, words, byte_at, word_at}
 use Rattle.image.specs.Block.{subsystem_words}
 

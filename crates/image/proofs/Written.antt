@@ -1,6 +1,6 @@
 -- A buffer that is filled from its first byte on: what stands in it after each part that is put behind the parts before.
-use Rattle.std.proofs.Common.{◌≡◌, ℕ, ◌+◌, ◌*◌, ◌<◌, ◌≤◌, List, [], ◌∷◌, ◌++◌, length, get_or, take, length-take, append-nil, refl, sym, ap, ap₂, ◌∙◌, append_assoc, add-one, arith}
-use lib.Seq.{take_all, take-suc, paste, take-paste}
+use Rattle.std.proofs.Common.{◌≡◌, ℕ, ◌+◌, ◌<◌, ◌≤◌, List, [], ◌∷◌, ◌++◌, length, get_or, take, length-take, append-nil, refl, sym, ap, ap₂, ◌∙◌, append_assoc, add-one, arith, take_all, take-suc}
+use lib.Seq.{paste, take-paste}
 use Rattle.below.specs.Listed.{listed, listed_onto}
 use Rattle.plan.specs.declared.Plan.{Plan}
 use Rattle.image.specs.Words.{word, words}

@@ -1,10 +1,5 @@
 -- Laws of the whole reading and of what asking answers: 20, the lines, 29, 30, and then a row's margin.
-use mathlib.Core.Path.{◌≡◌, sym, ap}
-use mathlib.Core.Bool.{true, false}
-use mathlib.Core.List.{List}
-use Prim.Native.Nat.{ℕ, ◌≤◌, ◌<◌}
-use lib.ListN.{length}
-use borrow.Author.Tests.{lt-ltb, le-ltb, eq-eqb, ne_eqb}
+use Rattle.std.proofs.Common.{◌≡◌, sym, ap, true, false, List, ℕ, ◌≤◌, ◌<◌, length, lt-ltb, le-ltb, eq-eqb, ne_eqb}
 use Rattle.text.specs.Lines.{lines}
 use Rattle.plan.specs.declared.Plan.{Plan}
 use Rattle.plan.specs.Admission.{margin, first_negative}

@@ -1,16 +1,5 @@
 -- Laws of a line made from the numbers of its fields: how the first field is taken, and what the last one says.
-use mathlib.Core.Path.{◌≡◌, refl, ◌∙◌}
-use mathlib.Core.Bool.{Bool, true, false}
-use mathlib.Core.List.{List, [], ◌∷◌}
-use Rattle.std.proofs.Common.{option_map}
-use Prim.Native.Nat.{ℕ, ◌+◌, ◌-◌, ◌≤◌, ◌<◌}
-use native.Mathlib.Nat.{le_of_eq}
-use native.Mathlib.Numerals.{add-one}
-use native.Mathlib.Omega.{arith}
-use lib.Dec.{ltb}
-use lib.ListN.{length, take, drop, length-drop}
-use lib.Seq.{take_all}
-use borrow.Author.Tests.{ltb-true, ltb-false}
+use Rattle.std.proofs.Common.{◌≡◌, refl, ◌∙◌, Bool, true, false, List, [], ◌∷◌, option_map, ℕ, ◌+◌, ◌-◌, ◌≤◌, ◌<◌, le_of_eq, add-one, arith, ltb, length, take, drop, length-drop, take_all, ltb-true, ltb-false, Option, Some, None}
 use Rattle.text.specs.Lines.{until, fields, tab}
 use Rattle.text.specs.Numbers.{number, numbers, of_one, of_two, of_three}
 use Rattle.text.proofs.Parted.{Parted, Whole, parted, whole}
@@ -18,7 +7,6 @@ use Rattle.text.proofs.Lines.{fields_tab, fields_whole}
 use Rattle.text.proofs.Numbers.{number_tab}
 use Rattle.reader.specs.declared.Line.{Line}
 use Rattle.reader.specs.Line.{of_numbers}
-use Rattle.std.proofs.Common.{Option, Some, None}
 
 -- a text has a tab or none
 pub tab_or_none : {C : Type 0} (s : List ℕ) → (Parted tab s (until tab s) → C) → (Whole tab s → C) → C

@@ -1,13 +1,6 @@
 -- Laws of the letter of a line and of the letter of a resource.
-use mathlib.Core.Path.{◌≡◌, refl, ap}
-use mathlib.Core.Bool.{Bool, true, false, and-false}
-use mathlib.Core.List.{List, [], ◌∷◌}
-use Prim.Native.Nat.{ℕ, zero, suc, ◌-◌, ◌≤◌, ◌<◌}
-use native.Mathlib.Omega.{arith}
-use lib.Dec.{eqb}
-use lib.ListN.{length, get_or, take, drop}
-use lib.Seq.{length-take-le}
-use borrow.Author.Tests.{ne_eqb}
+use Rattle.std.proofs.Common.{◌≡◌, refl, ap, Bool, true, false, List, [], ◌∷◌, ℕ, zero, suc, ◌-◌, ◌≤◌, ◌<◌, arith, eqb, length, get_or, take, drop, length-take-le, ne_eqb, Option, Some, None}
+use mathlib.Core.Bool.{and-false}
 use Rattle.text.specs.Bytes.{bytes, same}
 use Rattle.text.specs.Lines.{until, onto, fields, tab}
 use Rattle.text.specs.Numbers.{numbers, of_one, of_two, of_three}
@@ -17,7 +10,6 @@ use Rattle.reader.specs.declared.Line.{Line}
 use Rattle.reader.specs.declared.Line.TheVariants.{Resource}
 use Rattle.reader.specs.Line.{as_subsystem, as_task, as_uses, of_numbers, of_kind, of_kind_field, of_fields}
 use Rattle.reader.proofs.Fields.{tab_or_none, to_the_end}
-use Rattle.std.proofs.Common.{Option, Some, None}
 
 -- only a text of one byte is a letter
 same_one : (c : ℕ) (k : List ℕ) → (length k ≡ 1 → ⊥) → same k (c ∷ []) ≡ false

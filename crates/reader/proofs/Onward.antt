@@ -1,11 +1,5 @@
 -- Laws of reading on: the next line of a text at a place, as the code finds it.
-use mathlib.Core.Path.{◌≡◌, refl, sym, ap, ◌∙◌}
-use mathlib.Core.Bool.{true, false}
-use mathlib.Core.List.{List, [], ◌∷◌}
-use Prim.Native.Nat.{ℕ, suc, ◌+◌, ◌-◌, ◌≤◌, ◌<◌}
-use native.Mathlib.Omega.{arith}
-use lib.ListN.{length, take, drop, length-drop, drop_of_length-le}
-use lib.Seq.{drop-drop}
+use Rattle.std.proofs.Common.{◌≡◌, refl, sym, ap, ◌∙◌, true, false, List, [], ◌∷◌, ℕ, suc, ◌+◌, ◌-◌, ◌≤◌, ◌<◌, arith, length, take, drop, length-drop, drop_of_length-le, drop-drop, Option, Some, None}
 use Rattle.text.specs.Lines.{until, lines, body, fields, line_feed}
 use Rattle.text.proofs.Parted.{Parted, parted, whole}
 use Rattle.text.proofs.Lines.{lines_feed, lines_whole, body_feed, body_whole}
@@ -17,7 +11,6 @@ use Rattle.reader.specs.Line.{of_fields, line_of, kind_of}
 use Rattle.reader.specs.Conditions.{not_grammar}
 use Rattle.reader.specs.Reading.{judged, with_line, refused, read_from}
 use Rattle.reader.proofs.Judged.{judged_grammar}
-use Rattle.std.proofs.Common.{Option, Some, None}
 
 -- a line with its line feed is read as its body is, one without as nothing
 line_ended : (l : List ℕ) {b : List ℕ} → body l ≡ Some b → line_of l ≡ of_fields (fields b)

@@ -1,11 +1,7 @@
 -- A line that was accepted has room in the plan, and leaves no more rows than may be.
-use mathlib.Core.Path.{◌≡◌, refl, sym, ap, ◌∙◌}
-use mathlib.Core.Bool.{Bool, true, false, ◌&&◌, ◌||◌, cond, true≢false, false≢true, and-eq-true_iff}
-use mathlib.Core.List.{List, ◌∷◌}
-use Prim.Native.Nat.{ℕ, ◌≤◌}
-use native.Mathlib.Omega.{arith}
-use lib.Dec.{leb, eqb}
-use borrow.Author.Tests.{leb-true, leb-false, eqb-true, not-false}
+use Rattle.std.proofs.Common.{◌≡◌, refl, sym, ap, ◌∙◌, Bool, true, false, ◌&&◌, ◌||◌, cond, true≢false, List, ◌∷◌, ℕ, ◌≤◌, arith, leb, eqb, leb-true, leb-false, eqb-true, Option, Some, None}
+use mathlib.Core.Bool.{false≢true, and-eq-true_iff}
+use borrow.Author.Tests.{not-false}
 use Rattle.plan.specs.declared.Plan.{Plan}
 use Rattle.plan.specs.Limits.{longest}
 use Rattle.plan.specs.Plan.{is_global}
@@ -17,7 +13,6 @@ use Rattle.reader.specs.Numbers.{is_accepted}
 use Rattle.reader.specs.Conditions.{too_many_rows, no_such_row, out_of_range}
 use Rattle.reader.specs.Reading.{empty_plan, first_of, judged, with_subsystem, with_task, with_resource, with_use, with_line}
 use Rattle.reader.specs.Room.{Counts, Room}
-use Rattle.std.proofs.Common.{Option, Some, None}
 
 pub accepted_is : (v : Verdict) → is_accepted v ≡ true → v ≡ Accepted
 unfolding is_accepted

@@ -53,7 +53,7 @@ of_fields (k ∷ fs) =
 unfoldable pub line_of : List ℕ → Option Line
 line_of l = elim (body l) [ None ↦ None | Some b ↦ of_fields (fields b) ]
 
--- the place of a line's kind in the order of the kinds; a malformed line has none of them
+-- the place of a line's kind in the order of the kinds; a malformed line stands behind them all
 unfoldable pub kind_of : Option Line → ℕ
 kind_of (Some (Subsystem period budget)) = 0
 kind_of (Some (Task subsystem)) = 1

@@ -66,7 +66,7 @@ fn uses_of(s: &[u8]) -> Option<Line>
     })
 }
 
-// A letter and its fields. A line that is empty, or whose first field is not one byte, is nothing.
+// A letter and its fields. A line that is empty, or whose first field is not one byte, is none.
 pub fn line_of(s: &[u8]) -> Option<Line>
     ensures { result ≡ of_fields (fields s.now) }
 {

@@ -1,14 +1,5 @@
 -- What is taken of a piece, as facts with names: how much, where the run stands then, what the buffer holds, and why it stopped where it did.
-use mathlib.Core.Path.{◌≡◌, refl, sym, ap, subst, ◌∙◌}
-use mathlib.Core.Bool.{Bool, true, false}
-use mathlib.Core.List.{List, [], ◌++◌}
-use Prim.Native.Nat.{ℕ, zero, suc, ◌+◌, ◌≤◌, ◌<◌}
-use native.Mathlib.Nat.{add-zero, add_assoc}
-use native.Mathlib.Omega.{arith}
-use lib.Dec.{ltb}
-use lib.ListN.{length, take, drop, length-append, length-drop, take-append-drop}
-use lib.Seq.{take-add, drop-drop}
-use borrow.Author.Tests.{ltb-true, ltb-false}
+use Rattle.std.proofs.Common.{◌≡◌, refl, sym, ap, subst, ◌∙◌, Bool, true, false, List, [], ◌++◌, ℕ, zero, suc, ◌+◌, ◌≤◌, ◌<◌, add-zero, add_assoc, arith, ltb, length, take, drop, length-append, length-drop, take-append-drop, take-add, drop-drop, ltb-true, ltb-false}
 use Rattle.below.proofs.Tests.{clash}
 use Rattle.text.specs.Lines.{line_feed, until, lines}
 use Rattle.text.proofs.Parted.{whole}

@@ -1,14 +1,6 @@
 -- Laws of a piece line by line: its first line, what is left behind it, and when a loop over the lines stops.
-use mathlib.Core.Path.{◌≡◌, refl, sym, ap, ◌∙◌}
-use mathlib.Core.Bool.{Bool, true, false}
-use mathlib.Core.List.{List, [], ◌∷◌}
-use Prim.Native.Nat.{ℕ, suc, ◌+◌, ◌≤◌, ◌<◌}
-use native.Mathlib.Numerals.{add-one}
-use native.Mathlib.Omega.{arith}
-use lib.Dec.{ltb, eqb}
-use lib.ListN.{length, take, drop}
-use lib.Seq.{take_all, length-take-le, drop-length}
-use borrow.Author.Tests.{ltb-true, ltb-false, eq-eqb}
+use Rattle.std.proofs.Common.{◌≡◌, refl, sym, ap, ◌∙◌, Bool, true, false, List, [], ◌∷◌, ℕ, suc, ◌+◌, ◌≤◌, ◌<◌, add-one, arith, ltb, eqb, length, take, drop, take_all, length-take-le, ltb-true, ltb-false, eq-eqb}
+use lib.Seq.{drop-length}
 use Rattle.text.specs.Lines.{line_feed, until, lines}
 use Rattle.text.proofs.Parted.{Parted, parted, whole}
 use Rattle.text.proofs.Lines.{lines_feed, lines_whole}

@@ -1,9 +1,5 @@
 -- The definitions of a run in pieces, case by case: a byte inside a line, a line feed, a line that is answered, and one past the last that is.
-use mathlib.Core.Path.{◌≡◌, refl, sym}
-use mathlib.Core.Bool.{true, false}
-use mathlib.Core.List.{List, [], ◌∷◌, ◌++◌, append_assoc}
-use Prim.Native.Nat.{ℕ, ◌+◌}
-use lib.Dec.{eqb}
+use Rattle.std.proofs.Common.{◌≡◌, refl, sym, true, false, List, [], ◌∷◌, ◌++◌, append_assoc, ℕ, ◌+◌, eqb}
 use Rattle.text.specs.Lines.{line_feed}
 use Rattle.plan.specs.declared.Plan.{Plan}
 use Rattle.line.specs.Printed.{printed}

@@ -1,13 +1,6 @@
 -- Keeping 20 bytes of a line changes no event: a line that is longer is none, and neither are bytes without a line feed.
-use mathlib.Core.Path.{◌≡◌, refl, ap, sym, ◌∙◌}
-use mathlib.Core.Bool.{Bool, true, false}
-use mathlib.Core.List.{List, [], ◌∷◌, ◌++◌}
-use Prim.Native.Nat.{ℕ, zero, suc, ◌≤◌}
-use native.Mathlib.Omega.{arith}
-use lib.Dec.{eqb, ltb}
-use lib.ListN.{length, take, length-append}
-use lib.Seq.{take_all, take-append-le}
-use borrow.Author.Tests.{ltb-true, ltb-false}
+use Rattle.std.proofs.Common.{◌≡◌, refl, ap, sym, ◌∙◌, Bool, true, false, List, [], ◌∷◌, ◌++◌, ℕ, zero, suc, ◌≤◌, arith, eqb, ltb, length, take, length-append, take_all, ltb-true, ltb-false}
+use lib.Seq.{take-append-le}
 use Rattle.text.specs.Lines.{line_feed, lines, onto}
 use Rattle.text.proofs.Parted.{Whole}
 use Rattle.text.proofs.Lines.{body_whole}

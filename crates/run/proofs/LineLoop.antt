@@ -1,12 +1,5 @@
 -- The loop over the lines of a piece: what one turn changes, and where it stops.
-use mathlib.Core.Path.{◌≡◌, refl, sym, ap, ◌∙◌}
-use mathlib.Core.Bool.{true, false}
-use mathlib.Core.List.{List, ◌∷◌}
-use Prim.Native.Nat.{ℕ, ◌+◌, ◌≤◌}
-use native.Mathlib.Nat.{zero-add, add-zero, add_assoc}
-use native.Mathlib.Omega.{arith}
-use lib.ListN.{length, drop, drop_of_length-le}
-use lib.Seq.{drop-drop}
+use Rattle.std.proofs.Common.{◌≡◌, sym, ap, ◌∙◌, true, false, List, ◌∷◌, ℕ, ◌+◌, ◌≤◌, zero-add, add-zero, add_assoc, length, drop, drop_of_length-le, drop-drop}
 use Rattle.text.specs.Lines.{lines}
 use Rattle.plan.specs.declared.Plan.{Plan}
 use Rattle.plan.specs.declared.CeiledPlan.{CeiledPlan}

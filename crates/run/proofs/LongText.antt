@@ -1,13 +1,5 @@
 -- "Admission", 20: a text that is too long stays too long when it is cut one byte behind the limit.
-use mathlib.Core.Path.{◌≡◌, refl, ap, sym, ◌∙◌}
-use mathlib.Core.Bool.{Bool, true, false}
-use mathlib.Core.List.{List}
-use Prim.Native.Nat.{ℕ, ◌<◌}
-use native.Mathlib.Omega.{arith}
-use lib.Dec.{ltb}
-use lib.ListN.{length, take, length-take}
-use lib.Seq.{take_all}
-use borrow.Author.Tests.{ltb-true, ltb-false}
+use Rattle.std.proofs.Common.{◌≡◌, refl, ap, sym, ◌∙◌, Bool, true, false, List, ℕ, ◌<◌, arith, ltb, length, take, length-take, take_all, ltb-true, ltb-false}
 use Rattle.reader.specs.Reading.{reading, most_bytes}
 use Rattle.reader.proofs.Answers.{reading_long}
 use Rattle.run.specs.Reporting.{report_of, reported_lines}

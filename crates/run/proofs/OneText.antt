@@ -1,18 +1,12 @@
 -- Lines that all had room stand in the buffer as one text; and they all have room exactly when that text has.
-use mathlib.Core.Path.{◌≡◌, refl, sym, ap, ◌∙◌}
-use mathlib.Core.Bool.{Bool, true, false, false≢true}
-use mathlib.Core.List.{List, [], ◌∷◌, ◌++◌, append_assoc}
-use Prim.Native.Nat.{ℕ, ◌+◌, ◌-◌, ◌≤◌}
-use native.Mathlib.Omega.{arith}
-use lib.ListN.{length, take, drop, length-append, length-take, length-drop, take-append-drop}
-use lib.Seq.{take_at, drop_at, drop-drop}
-use lib.Dec.{leb}
-use borrow.Author.Tests.{leb-true, leb-false, le-leb, lt-leb}
+use Rattle.std.proofs.Common.{◌≡◌, refl, sym, ap, ◌∙◌, Bool, true, false, List, [], ◌∷◌, ◌++◌, append_assoc, ℕ, ◌+◌, ◌-◌, ◌≤◌, arith, length, take, drop, length-append, length-take, length-drop, take-append-drop, take_at, drop_at, drop-drop, leb, leb-true, leb-false, le-leb}
+use mathlib.Core.Bool.{false≢true}
+use borrow.Author.Tests.{lt-leb}
 use Rattle.line.specs.Filled.{has_room, out_after}
-use Rattle.line.proofs.Room as room
 use Rattle.std.specs.Prelude.{Ok}
 use Rattle.run.specs.AsFar.{as_far, as_far_out, is_whole, in_one}
 use Rattle.run.proofs.AsFarLaws.{far_room, far_none, out_room}
+use Rattle.line.proofs.Room as room
 
 -- one line that has room
 module _ (out : List ℕ) (fill : ℕ) (l : List ℕ) (h : fill + length l ≤ length out) where

@@ -1,14 +1,5 @@
 -- Two texts put one after the other into the rest of a buffer are their join put at once.
-use mathlib.Core.Path.{◌≡◌, refl, sym, ◌∙◌}
-use mathlib.Core.Bool.{Bool, true, false}
-use mathlib.Core.List.{List, [], ◌++◌, append_assoc}
-use Prim.Native.Nat.{ℕ, ◌+◌, ◌≤◌, ◌<◌}
-use native.Mathlib.Nat.{add-zero, add_assoc}
-use native.Mathlib.Omega.{arith}
-use lib.Dec.{leb}
-use lib.ListN.{length, take, drop, length-append, length-take, length-drop}
-use lib.Seq.{take_at, drop_at, drop-drop}
-use borrow.Author.Tests.{leb-true, leb-false, le-leb}
+use Rattle.std.proofs.Common.{◌≡◌, refl, sym, ◌∙◌, Bool, true, false, List, [], ◌++◌, append_assoc, ℕ, ◌+◌, ◌≤◌, ◌<◌, add-zero, add_assoc, arith, leb, length, take, drop, length-append, length-take, length-drop, take_at, drop_at, drop-drop, leb-true, leb-false, le-leb}
 use Rattle.line.specs.Filled.{has_room, out_after}
 use Rattle.line.proofs.Room.{out_room}
 use Rattle.run.proofs.KeptBytes.{none_of}

@@ -1,13 +1,6 @@
 -- "The run program": an event file in pieces is answered as its whole text is, however it is cut.
-use mathlib.Core.Path.{◌≡◌, refl, ap, sym, ◌∙◌}
-use mathlib.Core.Bool.{Bool, true, false}
-use mathlib.Core.List.{List, [], ◌∷◌, ◌++◌, append-nil, append_assoc}
-use Prim.Native.Nat.{ℕ, zero, suc, ◌+◌, ◌-◌}
-use native.Mathlib.Omega.{arith}
-use lib.Dec.{eqb, leb}
-use lib.ListN.{take}
+use Rattle.std.proofs.Common.{◌≡◌, refl, ap, sym, ◌∙◌, Bool, true, false, List, [], ◌∷◌, ◌++◌, append-nil, append_assoc, ℕ, zero, suc, ◌+◌, ◌-◌, arith, eqb, leb, take, leb-true, leb-false, eqb-true}
 use lib.Seq.{append_snoc, take-nil}
-use borrow.Author.Tests.{leb-true, leb-false, eqb-true}
 use Rattle.text.specs.Lines.{line_feed, lines}
 use Rattle.text.proofs.Parted.{Whole}
 use Rattle.text.proofs.Lines.{lines_whole}

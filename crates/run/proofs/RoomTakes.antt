@@ -1,12 +1,5 @@
 -- A buffer with 128 bytes of room takes the next line, whatever it is: no printed line is longer.
-use mathlib.Core.Path.{◌≡◌, refl, sym, ap, ◌∙◌}
-use mathlib.Core.Bool.{Bool, true, false}
-use mathlib.Core.List.{List}
-use Prim.Native.Nat.{ℕ, ◌+◌, ◌≤◌}
-use native.Mathlib.Omega.{arith}
-use lib.Dec.{ltb}
-use lib.ListN.{length, drop}
-use borrow.Author.Tests.{leb-true, ltb-true, ltb-false}
+use Rattle.std.proofs.Common.{◌≡◌, refl, sym, ap, ◌∙◌, Bool, true, false, List, ℕ, ◌+◌, ◌≤◌, arith, ltb, length, drop, leb-true, ltb-true, ltb-false}
 use Rattle.below.proofs.Tests.{clash}
 use Rattle.text.specs.Lines.{line_feed, until}
 use Rattle.text.proofs.Parted.{whole}

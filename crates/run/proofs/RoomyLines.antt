@@ -1,13 +1,12 @@
 -- Lines where the buffer has room for any: such a line is put, and the loop over them goes on behind it.
-use Rattle.std.proofs.Common.{◌≡◌, ℕ, ◌+◌, ◌≤◌, ◌<◌, Bool, true, false, List, [], length, drop, length-drop, refl, sym, ap, ◌∙◌, arith}
-use Rattle.std.specs.Prelude.{Option, Some, None, unwrap_or}
-use borrow.Author.Tests.{le-leb}
+use Rattle.std.proofs.Common.{◌≡◌, ℕ, ◌+◌, ◌≤◌, ◌<◌, true, List, length, drop, length-drop, refl, sym, ap, ◌∙◌, arith, le-leb}
+use Rattle.std.specs.Prelude.{Option, Some, unwrap_or}
 use Rattle.text.specs.Lines.{line_feed, until}
 use Rattle.plan.specs.declared.Plan.{Plan}
 use Rattle.plan.specs.declared.CeiledPlan.{CeiledPlan}
 use Rattle.state.specs.declared.State.{State}
 use Rattle.line.specs.Printed.{printed}
-use Rattle.line.specs.Filled.{has_room, fill_after, out_after}
+use Rattle.line.specs.Filled.{has_room, fill_after}
 use Rattle.line.specs.Run.{most_lines, line_gives}
 use Rattle.run.specs.declared.kept.Kept.{Kept}
 use Rattle.run.specs.declared.stream.Stream.{Stream}

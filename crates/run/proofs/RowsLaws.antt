@@ -1,10 +1,5 @@
 -- Laws of the rows of a report: the first of those that are left, none left, and what one line says.
-use mathlib.Core.Path.{◌≡◌, sym, ap, ◌∙◌}
-use mathlib.Core.Bool.{true, false}
-use mathlib.Core.List.{List, [], ◌∷◌}
-use lib.IntN.{ℤ}
-use Prim.Native.Nat.{ℕ, suc, ◌+◌, ◌-◌, ◌≤◌, ◌<◌}
-use native.Mathlib.Omega.{arith}
+use Rattle.std.proofs.Common.{◌≡◌, sym, ap, ◌∙◌, true, false, List, [], ◌∷◌, ℤ, ℕ, suc, ◌+◌, ◌-◌, ◌≤◌, ◌<◌, arith}
 use Rattle.plan.specs.declared.Plan.{Plan}
 use Rattle.plan.specs.Plan.{period, budget}
 use Rattle.plan.specs.Admission.{blocking, demand, margin}

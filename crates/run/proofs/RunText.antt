@@ -1,9 +1,5 @@
 -- A whole run whose lines all had room stands in the buffer as its printed text.
-use mathlib.Core.Path.{◌≡◌, ap, ◌∙◌}
-use mathlib.Core.Bool.{true}
-use mathlib.Core.List.{List, ◌++◌}
-use Prim.Native.Nat.{ℕ, ◌+◌}
-use lib.ListN.{length, take, drop}
+use Rattle.std.proofs.Common.{◌≡◌, ap, ◌∙◌, true, List, ◌++◌, ℕ, ◌+◌, length, take, drop}
 use Rattle.line.specs.Run.{run}
 use Rattle.run.specs.AsFar.{as_far, as_far_out, fill_of, is_whole}
 use Rattle.run.specs.Running.{run_lines}

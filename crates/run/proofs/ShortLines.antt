@@ -1,15 +1,6 @@
 -- A line of a report has at most 128 bytes.
-use mathlib.Core.Bool.{Bool, true, false, cond, ◌&&◌}
-use mathlib.Core.List.{[], ◌∷◌}
-use Prim.Native.Nat.{ℕ, ◌+◌, ◌*◌, ◌^◌, ◌≤◌, ◌<◌}
+use Rattle.std.proofs.Common.{Bool, true, false, cond, ◌&&◌, [], ◌∷◌, ℕ, ◌+◌, ◌*◌, ◌^◌, ◌≤◌, ◌<◌, div-le_self, lt_of_le_of_lt, le_of_lt, mul-le-mul_left, mul-lt-mul_of_pos_right, arith, ltb, leb, length, pow_pos, pow-add, w64, SFits}
 use mathlib.Core.Path.{subst⁻¹}
-use native.Mathlib.Nat.{div-le_self, lt_of_le_of_lt, le_of_lt, mul-le-mul_left, mul-lt-mul_of_pos_right}
-use native.Mathlib.Omega.{arith}
-use lib.Dec.{ltb, leb}
-use lib.ListN.{length}
-use lib.Pow.{pow_pos, pow-add}
-use mir.Syntax.{w64}
-use mir.Val.{SFits}
 use mir.Facts.{to_z_pos}
 use Rattle.below.specs.Quotient.{rounded_up}
 use Rattle.below.proofs.Amounts.{sum_bounded, greatest_most}

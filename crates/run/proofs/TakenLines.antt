@@ -1,8 +1,6 @@
 -- Laws of lines that are put: with room and without, a line that is answered, and one that is passed over.
-use Rattle.std.proofs.Common.{◌≡◌, ℕ, ◌+◌, ◌≤◌, Bool, true, false, List, [], ◌∷◌, length, drop, refl, sym, ap, ◌∙◌, arith, take-append-drop}
+use Rattle.std.proofs.Common.{◌≡◌, ℕ, ◌+◌, ◌≤◌, Bool, true, false, List, [], ◌∷◌, length, drop, refl, sym, ap, ◌∙◌, arith, take-append-drop, add-zero, le-leb}
 use Rattle.std.specs.Prelude.{Option, Some, None}
-use native.Mathlib.Nat.{add-zero}
-use borrow.Author.Tests.{le-leb}
 use Rattle.plan.specs.declared.Plan.{Plan}
 use Rattle.state.specs.declared.State.{State}
 use Rattle.line.specs.Printed.{printed}

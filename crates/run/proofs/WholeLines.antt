@@ -1,11 +1,5 @@
 -- Laws of one line as it is fed: its end with the line feed, a piece that ends within it, and the first line of a piece.
-use mathlib.Core.Path.{◌≡◌, refl, sym, ap, ◌∙◌}
-use mathlib.Core.Bool.{true, false}
-use mathlib.Core.List.{List, [], ◌∷◌, ◌++◌, append-nil, append_assoc}
-use Prim.Native.Nat.{ℕ, suc, ◌+◌, ◌≤◌}
-use native.Mathlib.Omega.{arith}
-use lib.Dec.{leb}
-use lib.ListN.{length, take}
+use Rattle.std.proofs.Common.{◌≡◌, refl, sym, ap, ◌∙◌, true, false, List, [], ◌∷◌, ◌++◌, append-nil, append_assoc, ℕ, suc, ◌+◌, ◌≤◌, arith, leb, length, take}
 use Rattle.text.specs.Lines.{line_feed, until}
 use Rattle.text.proofs.Parted.{Parted, Whole, parted}
 use Rattle.plan.specs.declared.Plan.{Plan}

@@ -120,11 +120,11 @@ impl Stream {
         ensures { (at ≤ result.taken) × Within (length piece.now) (length out.old) fill result × (Stands c.now self.old.state → Stands c.now self.new.state
             × (from_place c.now.plan (at_of self.new) piece.now result.taken out.new result.fill ≡ from_place c.now.plan (at_of self.old) piece.now at out.old fill)) }
     {
+        if self.kept.len() != 0 {
+            return Fed { taken: at, fill };
+        }
         let mut taken = at;
         let mut filled = fill;
-        if self.kept.len() != 0 {
-            return Fed { taken, fill };
-        }
         let mut end = find(piece, at, b'\n');
         while end < piece.len() && is_roomy(self.number, out.len(), filled) {
             let number = self.number;

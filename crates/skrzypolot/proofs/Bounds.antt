@@ -1,10 +1,5 @@
 -- A fill lies within its buffer.
-use mathlib.Core.Path.{◌≡◌, refl}
-use mathlib.Core.Bool.{Bool, true, false}
-use mathlib.Core.List.{List, [], ◌∷◌}
-use Prim.Native.Nat.{ℕ, ◌+◌, ◌≤◌}
-use native.Mathlib.Omega.{arith}
-use lib.ListN.{length}
+use Rattle.std.proofs.Common.{◌≡◌, refl, Bool, true, false, List, [], ◌∷◌, ℕ, ◌+◌, ◌≤◌, arith, length}
 use Rattle.std.specs.Prelude.{Some, Result}
 use Rattle.line.specs.Filled.{has_room, fill_after, out_after}
 use Rattle.line.proofs.Room.{fill_within}

@@ -1,10 +1,5 @@
 -- A piece that goes through the buffer: what one turn of its loop does to a run.
-use mathlib.Core.Path.{◌≡◌, refl, sym, ap, subst, ◌∙◌}
-use mathlib.Core.List.{List, [], ◌++◌, append_assoc, append-nil}
-use Prim.Native.Nat.{ℕ, ◌+◌, ◌≤◌}
-use native.Mathlib.Nat.{add-zero}
-use lib.ListN.{length, take, drop}
-use lib.Seq.{take_all, take-add, take_at}
+use Rattle.std.proofs.Common.{◌≡◌, refl, sym, ap, subst, ◌∙◌, List, [], ◌++◌, append_assoc, append-nil, ℕ, ◌+◌, ◌≤◌, add-zero, length, take, drop, take_all, take-add, take_at}
 use Rattle.plan.specs.declared.Plan.{Plan}
 use Rattle.plan.specs.declared.CeiledPlan.{CeiledPlan}
 use Rattle.run.specs.Standing.{Stands}

@@ -1,11 +1,5 @@
 -- Laws of lines, of a line's body and of fields, by the first line feed or the first tab.
-use mathlib.Core.Path.{◌≡◌, refl}
-use mathlib.Core.List.{List, [], ◌∷◌}
-use Rattle.std.proofs.Common.{None, Some}
-use Prim.Native.Nat.{ℕ, suc, ◌<◌}
-use native.Mathlib.Nat.{not-suc-le-zero}
-use native.Mathlib.Omega.{arith}
-use lib.ListN.{length, take, drop}
+use Rattle.std.proofs.Common.{◌≡◌, refl, List, [], ◌∷◌, None, Some, ℕ, suc, ◌<◌, not-suc-le-zero, arith, length, take, drop}
 use Rattle.text.specs.Lines.{onto, lines, body, empty_or_none, fields, tab, line_feed}
 use Rattle.text.proofs.Parted.{Parted, Whole}
 

@@ -1,14 +1,7 @@
 -- Laws of number: how a row of digits is read on, and when a field writes no number.
-use mathlib.Core.Path.{◌≡◌, refl}
-use mathlib.Core.Bool.{true, false, ◌&&◌, and-false, and-true, or-true}
-use mathlib.Core.List.{List, ◌∷◌}
-use Prim.Native.Nat.{ℕ, suc, ◌+◌, ◌-◌, ◌*◌, ◌≤◌, ◌<◌}
-use native.Mathlib.Omega.{arith}
-use lib.Dec.{leb, eqb}
-use lib.ListN.{length, get_or, drop, drop_of_length-le}
-use lib.Seq.{drop-cons}
-use borrow.Author.Tests.{le-leb, lt-leb, ne_eqb}
-use Rattle.std.proofs.Common.{Some, None}
+use Rattle.std.proofs.Common.{◌≡◌, refl, true, false, ◌&&◌, List, ◌∷◌, ℕ, suc, ◌+◌, ◌-◌, ◌*◌, ◌≤◌, ◌<◌, arith, leb, eqb, length, get_or, drop, drop_of_length-le, drop-cons, le-leb, ne_eqb, Some, None}
+use mathlib.Core.Bool.{and-false, and-true, or-true}
+use borrow.Author.Tests.{lt-leb}
 use Rattle.text.specs.Lines.{tab}
 use Rattle.text.specs.Numbers.{is_digit, digits, is_number, worth, number}
 use Rattle.text.specs.Digits.{behind}

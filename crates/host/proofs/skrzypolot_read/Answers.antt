@@ -1,7 +1,5 @@
-use mathlib.Core.Path.{◌≡◌, sym, ◌∙◌}
-use lib.ListN.{length}
+use Rattle.std.proofs.Common.{◌≡◌, sym, ◌∙◌, length, arith}
 use Rattle.image.specs.Block.{block_bytes}
-use native.Mathlib.Omega.{arith}
 use Rattle.host.proofs.ReadLaws.{filled, wrong_length, refused, accepted}
 use Rattle.host.proofs.skrzypolot_read.Goals as goal
 

@@ -1,7 +1,5 @@
 -- `reader::ask` meets its contract: what the reading says decides.
-use mathlib.Core.Path.{sym, ap, ◌∙◌}
-use mir.Facts.{to_z-of_z}
-use mir.Syntax.{w64}
+use Rattle.std.proofs.Common.{sym, ap, ◌∙◌, to_z-of_z, w64}
 use Rattle.reader.specs.declared.Asked.TheVariants.{Margin}
 use Rattle.reader.specs.Margin.{has_margins, asked, asked_of}
 use Rattle.reader.specs.declared.Reading.{Reading}

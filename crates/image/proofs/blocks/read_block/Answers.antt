@@ -1,7 +1,6 @@
 -- Length, byte 3 and the plan are tested in this order, and no further test is needed: the other bytes are written as they were read.
-use Rattle.std.proofs.Common.{◌≡◌, ℕ, ◌<◌, true, false, get_or, sym, ap, ◌∙◌, arith}
+use Rattle.std.proofs.Common.{◌≡◌, ℕ, ◌<◌, true, false, get_or, sym, ap, ◌∙◌, arith, eq-eqb, ne_eqb}
 use mathlib.Core.Bool.{and-false}
-use borrow.Author.Tests.{eq-eqb, ne_eqb}
 use Rattle.plan.specs.Accepted.{accepted}
 use Rattle.image.specs.Words.{byte_at}
 use Rattle.image.specs.Block.{plan_of}

@@ -1,6 +1,5 @@
 -- Every section is put behind the one before it.
-use Rattle.std.proofs.Common.{◌≡◌, length, refl, sym, ◌∙◌, arith, rules}
-use borrow.Author.Tests.{eq-eqb, ne_eqb}
+use Rattle.std.proofs.Common.{◌≡◌, length, refl, sym, ◌∙◌, arith, rules, eq-eqb, ne_eqb}
 use Rattle.image.specs.Block.{block_bytes}
 use Rattle.image.specs.BlockCalls.{block_written}
 use Rattle.image.proofs.Written.{block_head, block_front, front_whole, begun_none, begun_put, begun_whole, words_none, words_whole, word_put, subsystems_none, subsystems_whole, subsystem_put}

@@ -1,5 +1,4 @@
-use Rattle.std.proofs.Common.{◌≡◌, rules, refl, sym, ◌∙◌}
-use borrow.Author.Tests.{tests}
+use Rattle.std.proofs.Common.{◌≡◌, rules, refl, sym, ◌∙◌, tests}
 use Rattle.below.specs.Below.{all}
 use Rattle.below.proofs.Chains.{all_over}
 use Rattle.image.specs.Words.{byte_at}

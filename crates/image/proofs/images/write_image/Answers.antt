@@ -1,9 +1,7 @@
 -- Rows of subsystems, and behind them rows of tasks.
-use Rattle.std.proofs.Common.{◌≡◌, [], ◌∷◌, length, sym, ap, ◌∙◌, arith}
-use borrow.Author.Tests.{eq-eqb, ne_eqb}
-use Rattle.below.specs.Listed.{listed}
+use Rattle.std.proofs.Common.{[], length, sym, ap, ◌∙◌, arith, eq-eqb, ne_eqb}
 use Rattle.state.specs.State.{task_at}
-use Rattle.image.specs.Image.{image_bytes, subsystem_bytes, task_bytes, joined, image_of}
+use Rattle.image.specs.Image.{image_bytes, subsystem_bytes, task_bytes, image_of}
 use Rattle.image.specs.Opening.{image_written}
 use Rattle.image.proofs.ImageLaws.{subsystem_eight, task_eight}
 use Rattle.image.proofs.Written.{begun_none, begun_whole, rows_none, rows_whole, row_put}

@@ -1,4 +1,4 @@
-use Rattle.std.proofs.Common.{◌≡◌, ℕ, Bool, true, sym, ap, ap₂, subst, ◌∙◌, arith, rules}
+use Rattle.std.proofs.Common.{◌≡◌, ℕ, Bool, true, sym, ap, ap₂, subst, ◌∙◌, arith, rules, Option}
 use Rattle.plan.specs.declared.Plan.{Plan}
 use Rattle.reader.specs.declared.Verdict.{Verdict}
 use Rattle.reader.specs.declared.Line.{Line}
@@ -9,7 +9,6 @@ use Rattle.reader.specs.Room.{Counts, Room}
 use Rattle.reader.proofs.Room.{accepted_is, room, counts_empty, counts_kept}
 use Rattle.reader.proofs.Onward.{read_unended, read_malformed, read_refused, read_onward, read_ended}
 use Rattle.reader.proofs.lines.read_lines.Goals as goal
-use Rattle.std.proofs.Common.{Option}
 
 -- what the code tests is what is judged
 as_judged : {v w : Verdict} {b a : Bool} → v ≡ w → b ≡ is_accepted v → b ≡ a → is_accepted w ≡ a

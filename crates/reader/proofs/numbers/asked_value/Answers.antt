@@ -1,10 +1,6 @@
-use mathlib.Core.Path.{sym, ap, ◌∙◌}
-use native.Mathlib.Omega.{arith}
-use lib.IntN.{pos}
-use mir.Syntax.{w64}
+use Rattle.std.proofs.Common.{sym, ap, ◌∙◌, arith, pos, w64, rules}
 use mir.ValLaws.{to_z-of_z, to_z_pos}
 use Rattle.reader.specs.Numbers.{asked_value}
-use borrow.Author.Rules.{rules}
 use Rattle.reader.proofs.numbers.asked_value.Goals as goal
 
 pub returns-in-Margin : goal.returns-in-Margin

@@ -6,8 +6,8 @@ use Rattle.step.specs.declared.Outcome.{Outcome}
 use Rattle.line.proofs.Short.{answer_length}
 use Rattle.run.proofs.LineSteps.{put_line}
 use Rattle.run.proofs.RoomyLines.{roomy}
-use Rattle.run.proofs.lines.line_in.Goals as goal
 use Rattle.run.proofs.lines.line_in.Goals.{After-unwrap_or}
+use Rattle.run.proofs.lines.line_in.Goals as goal
 
 -- the printed line is short, so that it has room
 back : (c : After-unwrap_or) → (c.print.result ≡ Some c.unwrap_or.result) × (c.unwrap_or.result ≤ length c.args.out.now)

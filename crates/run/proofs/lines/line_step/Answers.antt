@@ -6,8 +6,8 @@ use Rattle.step.specs.declared.Outcome.{Outcome}
 use Rattle.line.proofs.Room.{fill_within}
 use Rattle.line.specs.Run.{line_gives}
 use Rattle.run.proofs.LineSteps.{lined_room, lined_none}
-use Rattle.run.proofs.lines.line_step.Goals as goal
 use Rattle.run.proofs.lines.line_step.Goals.{After-stepped-a}
+use Rattle.run.proofs.lines.line_step.Goals as goal
 
 -- the line's outcome, and its state
 given : (c : After-stepped-a) → Lent c.args.c.now c.args.s.now → c.stepped-a.result ≡ answer_of (line_gives c.args.c.now.plan c.args.s.now c.args.line.now)

@@ -1,7 +1,5 @@
 -- `run::report::report_row` meets its contract: the numbers asked for are those of the row's line.
-use Rattle.std.proofs.Common.{◌∙◌}
-use mir.Facts.{to_z-of_z}
-use mir.Syntax.{w64}
+use Rattle.std.proofs.Common.{◌∙◌, to_z-of_z, w64}
 use Rattle.run.proofs.RowsLaws.{row_text_lem}
 use Rattle.run.proofs.report.report_row.Goals as goal
 

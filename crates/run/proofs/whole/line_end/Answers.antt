@@ -1,7 +1,5 @@
 -- `run::whole::line_end` meets its contract: the first line ends behind its line feed, or with the text.
-use mathlib.Core.Path.{ap}
-use native.Mathlib.Omega.{arith}
-use lib.ListN.{length, drop, length-drop}
+use Rattle.std.proofs.Common.{ap, arith, length, drop, length-drop}
 use Rattle.text.specs.Lines.{line_feed}
 use Rattle.text.proofs.Until.{until_le}
 use Rattle.run.proofs.FirstLines.{first_length, first_whole}

@@ -1,14 +1,12 @@
-use Rattle.std.proofs.Common.{◌≡◌, ◌≤◌, length, drop, length-drop, refl, sym, ◌∙◌, rules, arith}
-use Rattle.std.specs.Prelude.{Option, Some, None}
+use Rattle.std.proofs.Common.{◌≡◌, ◌≤◌, length, drop, length-drop, sym, ◌∙◌, rules, arith}
 use Rattle.choice.specs.Lent.{Lent}
-use Rattle.run.specs.declared.Lined.{Lined}
 use Rattle.run.specs.Lined.{lined, lined_state, lined_out}
 use Rattle.run.specs.Fed.{first_line}
 use Rattle.run.proofs.AsFarLaws.{leads_end, ok_or_some, ok_or_none, passed_on}
-use Rattle.run.proofs.FirstLines.{first_some, first_within}
+use Rattle.run.proofs.FirstLines.{first_within}
 use Rattle.run.proofs.PutLines.{left_start, left_end, left_over, turn_room, turn_none, turn_stands, first_lent}
-use Rattle.run.proofs.whole.run_lines.Goals as goal
 use Rattle.run.proofs.whole.run_lines.Goals.{After-line_end-end, After-line_step}
+use Rattle.run.proofs.whole.run_lines.Goals as goal
 
 pub loop-number-init : goal.loop-number-init
 loop-number-init c =

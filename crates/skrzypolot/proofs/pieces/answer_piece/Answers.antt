@@ -5,8 +5,8 @@ use Rattle.run.specs.Standing.{Stands}
 use Rattle.run.specs.Fed.{at_of, taken_of, piece_taken}
 use Rattle.run.proofs.RoomTakes.{takes_some}
 use Rattle.skrzypolot.proofs.Through.{went_start, turn_stays, went_on, went_none, went_all}
-use Rattle.skrzypolot.proofs.pieces.answer_piece.Goals as goal
 use Rattle.skrzypolot.proofs.pieces.answer_piece.Goals.{After-feed-f}
+use Rattle.skrzypolot.proofs.pieces.answer_piece.Goals as goal
 
 pub loop-at-init : goal.loop-at-init
 loop-at-init c = (omega arith, refl, omega arith, c.requires.2, went_start _ _ _)

@@ -1,6 +1,5 @@
 -- `run::kept::Kept::len` meets its contract: there are no more than the 20 bytes of the array.
-use Rattle.std.proofs.Common.{◌≡◌, rules, arith, length}
-use lib.ListN.{length-take}
+use Rattle.std.proofs.Common.{◌≡◌, rules, arith, length, length-take}
 use Rattle.run.specs.Fed.{kept_of}
 use Rattle.run.proofs.kept.Kept.len.Goals as goal
 

@@ -1,8 +1,8 @@
 -- `run::stream::Stream::answer` meets its contract: past the last line nothing is printed; otherwise the line step says whether the printed line had room.
-use Rattle.std.proofs.Common.{List, ℕ, sym, ap, ◌∙◌, arith}
-use borrow.Author.Tests.{le-leb, lt-leb}
+use Rattle.std.proofs.Common.{sym, ap, ◌∙◌, arith, le-leb}
+use borrow.Author.Tests.{lt-leb}
 use Rattle.state.specs.declared.State.{State}
-use Rattle.run.specs.Stream.{At, is_going}
+use Rattle.run.specs.Stream.{is_going}
 use Rattle.run.specs.Fed.{kept_of, at_of}
 use Rattle.run.proofs.TakenLines.{step_room, step_none, answer_over, answer_none, answer_room}
 use Rattle.run.proofs.stream.Stream.answer.Goals as goal

@@ -1,5 +1,5 @@
 use Rattle.std.proofs.Common.{◌≡◌, ◌+◌, ◌≤◌, length, drop, length-drop, refl, ◌∙◌, arith}
-use Rattle.std.specs.Prelude.{Some, None, option_map}
+use Rattle.std.specs.Prelude.{Some, option_map}
 use Rattle.choice.specs.Lent.{Lent}
 use Rattle.line.proofs.Parts.{to_end}
 use Rattle.run.specs.declared.stream.Fed.{Fed}
@@ -8,8 +8,8 @@ use Rattle.run.specs.Stream.{fed, fed_printed}
 use Rattle.run.specs.Fed.{Put, first_line, at_of, taken_of, from_place, piece_taken}
 use Rattle.run.proofs.FirstLines.{first_some, first_within}
 use Rattle.run.proofs.LineLoop.{place_start, place_end, place_on, place_stop, turn_stands}
-use Rattle.run.proofs.stream.Stream.feed.Goals as goal
 use Rattle.run.proofs.stream.Stream.feed.Goals.{After-feed_line, After-feed_roomy-at, Else-at-piece, In-Some}
+use Rattle.run.proofs.stream.Stream.feed.Goals as goal
 
 pub loop-at-init : goal.loop-at-init
 loop-at-init c = (omega arith, refl, λ h. h, λ l. (l, place_start _ _ _ _ _))

@@ -1,6 +1,5 @@
 -- `run::stream::Stream::feed_line` meets its contract: the first line feed ends the line, or the piece ends within it.
-use Rattle.std.proofs.Common.{◌≡◌, ℕ, ◌+◌, ◌≤◌, length, take, sym, ap, ◌∙◌, arith}
-use native.Mathlib.Nat.{zero-add}
+use Rattle.std.proofs.Common.{◌≡◌, ℕ, ◌+◌, ◌≤◌, length, take, sym, ap, ◌∙◌, arith, zero-add}
 use Rattle.text.specs.Lines.{line_feed, until}
 use Rattle.text.proofs.Parted.{whole}
 use Rattle.text.proofs.Until.{until_le}
@@ -9,8 +8,8 @@ use Rattle.run.specs.Fed.{at_of, first_line}
 use Rattle.run.proofs.TakenLines.{put_quiet, put_as}
 use Rattle.run.proofs.WholeLines.{inside_fed}
 use Rattle.run.proofs.FirstLines.{first_ended, first_length, first_whole}
-use Rattle.run.proofs.stream.Stream.feed_line.Goals as goal
 use Rattle.run.proofs.stream.Stream.feed_line.Goals.{After-find-end}
+use Rattle.run.proofs.stream.Stream.feed_line.Goals as goal
 
 -- where the line feed was found, or the end
 found : (c : After-find-end) → c.find-end.result ≡ until line_feed c.args.rest.now

@@ -1,12 +1,12 @@
 -- `run::stream::Stream::finish` meets its contract: nothing is kept, or no more lines are answered, or the kept bytes are the last line.
-use Rattle.std.proofs.Common.{◌≡◌, [], refl, sym, ap, ◌∙◌, arith}
-use borrow.Author.Tests.{le-leb, lt-leb}
+use Rattle.std.proofs.Common.{◌≡◌, [], refl, sym, ap, ◌∙◌, arith, le-leb}
+use borrow.Author.Tests.{lt-leb}
 use Rattle.run.specs.Stream.{is_going, line_printed, end_printed}
-use Rattle.run.specs.Fed.{kept_of, at_of, whole_line}
+use Rattle.run.specs.Fed.{at_of, whole_line}
 use Rattle.run.proofs.KeptBytes.{none_of}
 use Rattle.run.proofs.TakenLines.{fill_quiet, out_quiet, end_empty, end_over, end_some, step_room, step_none, answer_room, answer_none}
-use Rattle.run.proofs.stream.Stream.finish.Goals as goal
 use Rattle.run.proofs.stream.Stream.finish.Goals.{After-line_step, Joined-then-n-eq0, then-n-eq0-via-then-n-eq0, then-n-eq0-via-else-n-eq0+then-self-gt9999999}
+use Rattle.run.proofs.stream.Stream.finish.Goals as goal
 
 -- there is no last line
 none : (c : Joined-then-n-eq0) → end_printed c.args.c.now.plan (at_of c.args.self.now) ≡ []
