@@ -94,7 +94,7 @@ fn at_rows(c: &CeiledPlan, s: &mut State, kind: Kind, k: u8, r: u8) -> Answer
     answered(c, s, n)
 }
 
-// A row as a byte. No plan has a row past 254, so a number past it is as good as 255.
+// A row as a byte. No plan has a row past 254, so a number past it is as good as 255, which no conversion of the library gives.
 #[tactic(auto, unfolding(crate::specs::Lent::narrow))]
 fn narrow(row: u32) -> u8
     ensures { result ≡ narrow row }
