@@ -1,6 +1,6 @@
 -- What `array::from_fn` makes of a closure that keeps nothing: the values at the numbers below its length.
 use Rattle.std.proofs.Common.{◌≡◌, ℕ, zero, suc, ◌+◌, ◌<◌, List, get_or, refl, sym, subst, ◌∙◌, arith, zero-add}
-use Rattle.core.specs.Array.{IsFromFnResultFrom, IsFromFnResult}
+use Rattle.std.specs.Array.{IsFromFnResultFrom, IsFromFnResult}
 use Rattle.std.specs.Fn.{Called}
 use denote.Param.Members.{Mut}
 use Rattle.below.specs.Listed.{listed}
