@@ -1,9 +1,9 @@
 -- A number within a buffer counts bytes at its start, and what a read puts behind them.
-use Rattle.std.proofs.Common.{◌≡◌, sym, List, ℕ, ◌+◌, ◌≤◌, ◌++◌, length, take, drop, arith, ap, ◌∙◌, append-nil, drop_at}
+use Rattle.std.proofs.Common.{◌≡◌, sym, List, ℕ, ◌+◌, ◌≤◌, ◌++◌, length, take, drop, arith, ap, ◌∙◌, append-nil, drop_at, take-add}
 use Rattle.std.proofs.Math.Seq.{length-take-le}
 use Rattle.std.proofs.lemmas.Slice.{take-put_mid_below}
 use borrow.Rule.Slice.PartMut.{put_mid, post_of}
-use lib.Seq.{take-add, take-append-le}
+use lib.Seq.{take-append-le}
 use Rattle.std.specs.Counts.{IsPrefixLen}
 
 pub counts : (n : ℕ) (xs : List ℕ) → n ≤ length xs → IsPrefixLen n xs

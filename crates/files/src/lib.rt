@@ -1,9 +1,10 @@
 // What the programs do with files. What fails is named on standard error, beside the reason.
 #![tactic(auto)]
 
-ghost use Rattle.std.specs.Prelude.{◌≡◌, ◌<◌, false, length, take, IfSome};
+ghost use Rattle.std.specs.Prelude.{◌≡◌, ◌<◌, length, take, IfSome, IfOk};
 ghost use Rattle.std.specs.Io.KnownBytes.{Consumes, IsAtEnd};
 ghost use Rattle.std.specs.Counts.{IsPrefixLen};
+ghost use Rattle.files.specs.Read.{count_of};
 
 use std::env::FillError;
 use std::fmt::{Display, Formatter, InlineText};
@@ -86,18 +87,22 @@ pub fn fail<E: Eprint>(rt: &E, what: &[u8], error: Error) {
     let _ = eprintln!(rt; "{}: {reason}", Lossy(what));
 }
 
-// How many bytes stand at the start of the buffer, and whether a read failed.
-#[derive(Clone, Copy)]
-pub struct Got {
+// A read failed, which was named on standard error. So many bytes stand at the start of the buffer.
+#[derive(Clone, Copy, PartialEq, Eq)]
+pub struct Unread {
     pub count: usize,
-    pub is_failed: bool,
 }
 
-// Reads until the buffer is full, the file ends or a read fails.
-pub fn read_file<R: Read, E: Eprint>(rt: &E, file: &mut R, path: &[u8], buf: &mut [u8]) -> Got
-    ensures in_buffer { IsPrefixLen result.count buf.new }
-    ensures bytes { Consumes (R.remaining file.old) (R.remaining file.new) (take result.count buf.new) }
-    ensures end { result.is_failed ≡ false → result.count < length buf.new → IsAtEnd (R.remaining file.new) }
+// Reads until the buffer is full, the file ends or a read fails, and answers how many bytes stand at its start.
+pub fn read_file<R: Read, E: Eprint>(
+    rt: &E,
+    file: &mut R,
+    path: &[u8],
+    buf: &mut [u8],
+) -> Result<usize, Unread>
+    ensures in_buffer { IsPrefixLen (count_of result) buf.new }
+    ensures bytes { Consumes (R.remaining file.old) (R.remaining file.new) (take (count_of result) buf.new) }
+    ensures end { IfOk result (λ n. n < length buf.new → IsAtEnd (R.remaining file.new)) }
 {
     let mut at: usize = 0;
     while at < buf.len() {
@@ -105,54 +110,48 @@ pub fn read_file<R: Read, E: Eprint>(rt: &E, file: &mut R, path: &[u8], buf: &mu
             Ok(n) => n,
             Err(e) => {
                 fail(rt, path, e);
-                return Got {
-                    count: at,
-                    is_failed: true,
-                };
+                return Err(Unread { count: at });
             }
         };
         if n == 0 {
-            return Got {
-                count: at,
-                is_failed: false,
-            };
+            return Ok(at);
         }
         at += n;
     }
-    Got {
-        count: at,
-        is_failed: false,
-    }
+    Ok(at)
 }
 
 // Reads once. At the end of the file there is nothing to read.
-pub fn read_piece<R: Read, E: Eprint>(rt: &E, file: &mut R, path: &[u8], buf: &mut [u8]) -> Got
-    ensures in_buffer { IsPrefixLen result.count buf.new }
-    ensures bytes { Consumes (R.remaining file.old) (R.remaining file.new) (take result.count buf.new) }
-    ensures end { result.is_failed ≡ false → result.count ≡ 0 → 0 < length buf.new → IsAtEnd (R.remaining file.new) }
+pub fn read_piece<R: Read, E: Eprint>(
+    rt: &E,
+    file: &mut R,
+    path: &[u8],
+    buf: &mut [u8],
+) -> Result<usize, Unread>
+    ensures in_buffer { IsPrefixLen (count_of result) buf.new }
+    ensures bytes { Consumes (R.remaining file.old) (R.remaining file.new) (take (count_of result) buf.new) }
+    ensures end { IfOk result (λ n. n ≡ 0 → 0 < length buf.new → IsAtEnd (R.remaining file.new)) }
 {
     match file.read(buf) {
-        Ok(count) => Got {
-            count,
-            is_failed: false,
-        },
+        Ok(count) => Ok(count),
         Err(e) => {
             fail(rt, path, e);
-            Got {
-                count: 0,
-                is_failed: true,
-            }
+            Err(Unread { count: 0 })
         }
     }
 }
 
-// Writes bytes to standard output, and answers whether all were written.
-pub fn write_out<R: Print + Eprint>(rt: &R, bytes: &[u8]) -> bool {
+// A write to standard output failed, which was named on standard error.
+#[derive(Clone, Copy, PartialEq, Eq)]
+pub struct Unwritten;
+
+// Writes all bytes to standard output.
+pub fn write_out<R: Print + Eprint>(rt: &R, bytes: &[u8]) -> Result<(), Unwritten> {
     match rt.write_all(bytes) {
-        Ok(()) => true,
+        Ok(()) => Ok(()),
         Err(e) => {
             fail(rt, b"output", e);
-            false
+            Err(Unwritten)
         }
     }
 }

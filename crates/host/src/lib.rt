@@ -8,8 +8,9 @@ ghost use Rattle.host.specs.Fresh.{fresh_left, fresh_call};
 ghost use Rattle.host.specs.Step.{step_left, step_call};
 ghost use Rattle.host.specs.Line.{line_left, line_call};
 
+use image::{open, read_block, write_block, write_image};
+use state::State;
 use step::event::stepped;
-use step::rows_with;
 
 // A plan text to its block. 34 where the block has another length than 1,108 bytes; otherwise 0 and the block, or the refusal with the
 // block as it was. The number beside is part of the answer, and kept only with 34.
@@ -19,25 +20,33 @@ pub fn skrzypolot_read(text: &[u8], block: &mut [u8], beside: &mut u32) -> u32
     if block.len() != 1108 {
         return 34;
     }
-    let r = reader::read(text);
-    let v = r.verdict;
-    if !reader::numbers::is_accepted(v) {
-        *beside = reader::numbers::beside(v);
-        return reader::numbers::number(v);
-    }
-    let plan = r.plan;
-    image::write_block(plan, block);
+    let plan = match reader::read(text) {
+        Ok(plan) => plan,
+        Err(refused) => {
+            *beside = refused.beside();
+            return refused.number();
+        }
+    };
+    write_block(&plan, block);
     *beside = 0;
     0
 }
 
 // The margin of a row of a plan text: 0 and the margin, or a refusal with the number beside it in the margin's place.
+#[tactic(auto, unfolding(crate::specs::Margin::margin_call))]
 pub fn skrzypolot_margin(text: &[u8], row: u32, margin: &mut i64) -> u32
     ensures { margin_left result margin.new ≡ margin_call text.now row }
 {
-    let a = reader::ask(text, row);
-    *margin = reader::numbers::asked_value(a);
-    reader::numbers::asked_number(a)
+    match reader::ask(text, row) {
+        Ok(m) => {
+            *margin = m;
+            0
+        }
+        Err(refused) => {
+            *margin = refused.beside() as i64;
+            refused.number()
+        }
+    }
 }
 
 // The image of the state that a run of the block's plan starts in. 34 where a buffer has the wrong length, 31 where no accepted plan has the
@@ -48,12 +57,11 @@ pub fn skrzypolot_fresh(block: &[u8], image: &mut [u8]) -> u32
     if image.len() != 320 {
         return 34;
     }
-    let b = image::read_block(block);
-    if b.number != 0 {
-        return b.number as u32;
-    }
-    let plan = b.plan;
-    image::write_image(state::beginning::fresh(plan), image);
+    let plan = match read_block(block) {
+        Ok(plan) => plan,
+        Err(refused) => return refused.number(),
+    };
+    write_image(&State::fresh(&plan), image);
     0
 }
 
@@ -72,24 +80,21 @@ pub fn skrzypolot_step(
     ensures { step_left result image.new subsystem.new running.new ended.new
         ≡ step_call block.now image.old kind task resource subsystem.old running.old ended.old }
 {
-    let x = image::open(block, image);
-    if x.number != 0 {
-        return x.number as u32;
-    }
-    let p = x.plan;
-    let s = x.state;
-    let ceilings = x.ceilings;
-    let o = stepped(rows_with(p, ceilings), &p.lengths, s, kind, task, resource);
-    let next = o.state;
-    image::write_image(next, image);
-    *subsystem = o.subsystem as u32;
-    *running = o.task as u32;
-    *ended = o.ended;
-    o.answer as u32
+    let lent = match open(block, image) {
+        Ok(lent) => lent,
+        Err(refused) => return refused.number(),
+    };
+    let mut state = lent.state;
+    let a = stepped(&lent.plan, &mut state, kind, task, resource);
+    write_image(&state, image);
+    *subsystem = a.subsystem as u32;
+    *running = a.task as u32;
+    *ended = a.ended;
+    a.answer as u32
 }
 
 // One event line on the state that the image writes, its printed line written behind the fill, which moves on. 34, 31, 32 and 33 keep
-// everything. No printed line is empty, so that a fill that stays means 33.
+// everything.
 pub fn skrzypolot_line(
     block: &[u8],
     image: &mut [u8],
@@ -101,20 +106,16 @@ pub fn skrzypolot_line(
     ensures { line_left result image.new out.new fill.new
         ≡ line_call block.now image.old number line.now out.old fill.old }
 {
-    let x = image::open(block, image);
-    if x.number != 0 {
-        return x.number as u32;
-    }
-    let p = x.plan;
-    let s = x.state;
-    let ceilings = x.ceilings;
+    let lent = match open(block, image) {
+        Ok(lent) => lent,
+        Err(refused) => return refused.number(),
+    };
+    let mut state = lent.state;
     let at = *fill;
-    let l = run::line_step(rows_with(p, ceilings), &p.lengths, s, number, line, out, at);
-    if l.fill == at {
+    let Some(put) = run::line_step(&lent.plan, &mut state, number, line, out, at) else {
         return 33;
-    }
-    let next = l.state;
-    image::write_image(next, image);
-    *fill = l.fill;
-    l.number as u32
+    };
+    write_image(&state, image);
+    *fill = put.fill;
+    put.answer as u32
 }

@@ -7,6 +7,8 @@ ghost use Rattle.std.specs.Counts.{IsPrefixLen};
 ghost use Rattle.line.specs.Report.{report};
 
 use files::{argument, argument_count, open_file, read_file, write_out};
+use run::fill_of;
+use run::report::report;
 use std::fs::File;
 
 // "Admission": the report of a text at the start of the buffer, and its length. Any report has room there.
@@ -15,24 +17,21 @@ fn report_of(text: &[u8], out: &mut [u8]) -> usize
     ensures prefix_len { IsPrefixLen result out.new }
     ensures out_after { take result out.new ≡ report text.now }
 {
-    let ran = run::report::report(text, out, 0);
-    ran.fill
+    fill_of(report(text, out, 0))
 }
 
 fn print_report(rt: &HostRuntime, text: &[u8]) {
     let mut out = [0u8; 1024];
     let n = report_of(text, &mut out);
-    write_out(rt, &out[..n]);
+    let _ = write_out(rt, &out[..n]);
 }
 
 // "Admission", 20: a longer file is refused for its length, so no more than 16,385 bytes are read.
 fn print_file(rt: &HostRuntime, file: &mut File, path: &[u8]) {
     let mut buf = [0u8; 16385];
-    let got = read_file(rt, file, path, &mut buf);
-    let n = got.count;
-    if got.is_failed {
+    let Ok(n) = read_file(rt, file, path, &mut buf) else {
         return;
-    }
+    };
     print_report(rt, &buf[..n]);
 }
 

@@ -3,12 +3,11 @@
 #![tactic(auto)]
 
 use files::{argument, argument_count, open_file, read_file};
-use plan::Plan;
+use plan::{CeiledPlan, Plan};
 use state::State;
-use state::beginning::fresh;
 use std::fs::File;
+use step::Answer;
 use step::event::stepped;
-use step::{Rows, rows_with};
 
 const KINDS: [u32; 16] = [4, 4, 4, 4, 4, 4, 4, 0, 0, 0, 1, 1, 1, 2, 2, 3];
 
@@ -18,47 +17,40 @@ fn next(x: u64) -> u64 {
 }
 
 // The sum with one more answer.
-fn summed(sum: u64, answer: u8, subsystem: u8, task: u8) -> u64 {
-    (sum % 4294967296 * 31 + (answer as u64) * 65536 + (subsystem as u64) * 256 + (task as u64))
+fn summed(sum: u64, a: Answer) -> u64 {
+    (sum % 4294967296 * 31
+        + (a.answer as u64) * 65536
+        + (a.subsystem as u64) * 256
+        + (a.task as u64))
         % 4294967296
 }
 
-fn paced(rows: Rows, lengths: &[u16], s: State) -> u64 {
+fn paced(c: &CeiledPlan, s: State) -> u64 {
     let mut state = s;
     let mut x: u64 = 1;
     let mut sum: u64 = 0;
-    let mut i: u32 = 0;
-    while i < 1000000 {
+    for _ in 0..1_000_000 {
         x = next(x);
         let kind = KINDS[(x / 65536 % 16) as usize];
         let task = (x / 1048576 % 32) as u32;
         let resource = (x / 4096 % 16) as u32;
-        let o = stepped(rows, lengths, state, kind, task, resource);
-        sum = summed(sum, o.answer, o.subsystem, o.task);
-        let after = o.state;
-        state = after;
-        i += 1;
+        sum = summed(sum, stepped(c, &mut state, kind, task, resource));
     }
     sum
 }
 
 fn pace(rt: &HostRuntime, p: Plan) {
-    let rows = rows_with(p, plan::ceilings(p));
-    let s = fresh(p);
-    let sum = paced(rows, &p.lengths, s);
+    let c = p.with_ceilings();
+    let sum = paced(&c, State::fresh(&c.plan));
     let _ = println!(rt; "{sum}");
 }
 
 fn pace_file(rt: &HostRuntime, file: &mut File, path: &[u8]) {
     let mut buf = [0u8; 16385];
-    let got = read_file(rt, file, path, &mut buf);
-    let n = got.count;
-    if got.is_failed {
+    let Ok(n) = read_file(rt, file, path, &mut buf) else {
         return;
-    }
-    let r = reader::read(&buf[..n]);
-    let p = r.plan;
-    pace(rt, p);
+    };
+    pace(rt, reader::read(&buf[..n]).plan);
 }
 
 fn main(rt: HostRuntime) {

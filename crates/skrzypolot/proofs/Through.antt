@@ -1,18 +1,14 @@
 -- A piece that goes through the buffer: what one turn of its loop does to a run.
-use mathlib.Core.Path.{◌≡◌, refl, sym, ap, subst, ◌∙◌}
-use mathlib.Core.List.{List, [], ◌++◌, append_assoc, append-nil}
-use Prim.Native.Nat.{ℕ, ◌+◌, ◌≤◌}
-use native.Mathlib.Nat.{add-zero}
-use lib.ListN.{length, take, drop}
-use lib.Seq.{take_all, take-add, take_at}
+use Rattle.std.proofs.Common.{◌≡◌, refl, sym, ap, subst, ◌∙◌, List, [], ◌++◌, append_assoc, append-nil, ℕ, ◌+◌, ◌≤◌, add-zero, length, take, drop, take_all, take-add, take_at}
 use Rattle.plan.specs.declared.Plan.{Plan}
-use Rattle.step.specs.declared.Rows.{Rows}
-use Rattle.step.specs.Lent.{Lent}
+use Rattle.plan.specs.declared.CeiledPlan.{CeiledPlan}
+use Rattle.run.specs.Standing.{Stands}
+use Rattle.run.specs.declared.stream.Stream.{Stream}
 use Rattle.run.specs.declared.stream.Fed.{Fed}
 use Rattle.run.specs.Stream.{At, fed, fed_printed}
 use Rattle.run.specs.Fed.{at_of, taken_of, piece_taken}
 use Rattle.run.proofs.Going.{fed_append, printed_append}
-use Rattle.run.proofs.FirstLines.{fed_lent}
+use Rattle.run.proofs.FirstLines.{fed_stands}
 use Rattle.skrzypolot.specs.Went.{Went}
 use Rattle.skrzypolot.proofs.Wrote.{Part, piece_part}
 
@@ -26,23 +22,26 @@ pub went_written : (p : Plan) (x : At) (held t : List ℕ) (y : At) (left : List
 went_written p x held t y left w = record { stands = w.stands; written = w.written ++ left; printed = append-nil (w.written ++ left) ∙ w.printed }
 
 -- a run goes on by what was taken
-module _ (p : Plan) (piece : List ℕ) (at : ℕ) (y : At) (out : List ℕ) (filled : ℕ) (f : Fed) (new : List ℕ)
-    (e : taken_of f new ≡ piece_taken p y (drop at piece) out filled) (h : filled ≤ length out) where
-  turn : Part p y (drop at piece) out filled (taken_of f new)
+module _ (c : CeiledPlan) (piece : List ℕ) (at : ℕ) (y : At) (out : List ℕ) (filled : ℕ) (s : Stream) (f : Fed) (new : List ℕ)
+    (e : taken_of s f new ≡ piece_taken c.plan y (drop at piece) out filled) (h : filled ≤ length out) where
+  abbrev p : Plan
+  p = c.plan
+
+  turn : Part p y (drop at piece) out filled (taken_of s f new)
   turn = subst (Part p y (drop at piece) out filled) (sym e) (piece_part p y (drop at piece) out filled h)
 
-  pub turn_stays : (rows : Rows) (lengths : List ℕ) → Lent p y.state rows lengths → Lent p f.stream.state rows lengths
+  pub turn_stays : Stands c y.state → Stands c s.state
   unfolding taken_of at_of
-  turn_stays rows lengths L = subst (λ (z : At). Lent p z.state rows lengths) (sym turn.wrote.stands) (fed_lent p rows lengths y turn.part L)
+  turn_stays S = subst (λ (z : At). Stands c z.state) (sym turn.wrote.stands) (fed_stands c y turn.part S)
 
   front_is : take (at + f.taken) piece ≡ take at piece ++ turn.part
   unfolding taken_of
   front_is = take-add at f.taken piece ∙ ap (λ (u : List ℕ). take at piece ++ u) (ap (take f.taken) turn.parts ∙ take_at turn.part turn.left f.taken (sym turn.many))
 
-  pub went_on : (x : At) (held : List ℕ) → Went p x held (take at piece) y (take filled out) → Went p x held (take (at + f.taken) piece) (at_of f.stream) (take f.fill new)
+  pub went_on : (x : At) (held : List ℕ) → Went p x held (take at piece) y (take filled out) → Went p x held (take (at + f.taken) piece) (at_of s) (take f.fill new)
   unfolding taken_of
   went_on x held w =
-      subst (λ (t : List ℕ). Went p x held t (at_of f.stream) (take f.fill new)) (sym front_is) (record {
+      subst (λ (t : List ℕ). Went p x held t (at_of s) (take f.fill new)) (sym front_is) (record {
         stands = turn.wrote.stands ∙ ap (λ (z : At). fed p z turn.part) w.stands ∙ sym (fed_append p x (take at piece) turn.part);
         written = w.written;
         printed =
@@ -55,10 +54,10 @@ module _ (p : Plan) (piece : List ℕ) (at : ℕ) (y : At) (out : List ℕ) (fil
       })
 
   -- where nothing was taken, the buffer is written out
-  pub went_none : (x : At) (held : List ℕ) → f.taken ≡ 0 → Went p x held (take at piece) y (take filled out) → Went p x held (take at piece) (at_of f.stream) []
+  pub went_none : (x : At) (held : List ℕ) → f.taken ≡ 0 → Went p x held (take at piece) y (take filled out) → Went p x held (take at piece) (at_of s) []
   went_none x held z w =
-      went_written p x held (take at piece) (at_of f.stream) (take f.fill new)
-      (subst (λ (n : ℕ). Went p x held (take n piece) (at_of f.stream) (take f.fill new)) (ap (λ (n : ℕ). at + n) z ∙ add-zero at) (went_on x held w))
+      went_written p x held (take at piece) (at_of s) (take f.fill new)
+      (subst (λ (n : ℕ). Went p x held (take n piece) (at_of s) (take f.fill new)) (ap (λ (n : ℕ). at + n) z ∙ add-zero at) (went_on x held w))
 
 -- behind the last turn
 pub went_all : (p : Plan) (x : At) (held piece : List ℕ) (at : ℕ) (y : At) (left : List ℕ) → length piece ≤ at → Went p x held (take at piece) y left → Went p x held piece y left

@@ -1,21 +1,13 @@
 -- A text that has room in the buffer: where the run stands behind it, and what the buffer holds up to the fill.
-use mathlib.Core.Path.{◌≡◌, refl, sym, ap, subst, ◌∙◌}
-use mathlib.Core.Bool.{Bool, true, false}
-use mathlib.Core.List.{List, [], ◌∷◌, ◌++◌, append_assoc, append-nil}
-use Prim.Native.Nat.{ℕ, ◌+◌, ◌-◌, ◌≤◌}
-use native.Mathlib.Omega.{arith}
-use lib.Dec.{eqb}
-use lib.ListN.{length, take, drop, length-append, length-take, length-drop}
-use lib.Seq.{take_at}
-use borrow.Author.Tests.{le-leb, leb-true}
+use Rattle.std.proofs.Common.{◌≡◌, refl, sym, ap, subst, ◌∙◌, Bool, true, false, List, [], ◌∷◌, ◌++◌, append_assoc, append-nil, ℕ, ◌+◌, ◌-◌, ◌≤◌, arith, eqb, length, take, drop, length-append, length-take, length-drop, take_at, le-leb, leb-true}
 use Rattle.text.specs.Lines.{line_feed, onto, lines}
 use Rattle.plan.specs.declared.Plan.{Plan}
 use Rattle.line.specs.Filled.{has_room, out_after}
-use Rattle.line.proofs.Room as room
 use Rattle.run.specs.Stream.{At, fed, fed_printed}
 use Rattle.run.specs.AsFar.{in_one}
 use Rattle.run.specs.Fed.{Taken, nothing, behind, lines_taken, piece_taken}
 use Rattle.run.proofs.Going.{fed_append, printed_append}
+use Rattle.line.proofs.Room as room
 
 -- a text that has room, behind the fill
 module _ (out : List ℕ) (fill : ℕ) (t : List ℕ) (h : fill + length t ≤ length out) where

@@ -2,15 +2,7 @@
 -- are together what the definition prints.
 use Rattle.std.specs.Prelude.{◌≡◌, List, ◌++◌, ℕ}
 use Rattle.plan.specs.declared.Plan.{Plan}
-use Rattle.state.specs.declared.State.{State}
-use Rattle.step.specs.declared.Rows.{Rows}
-use Rattle.step.specs.Lent.{Lent}
 use Rattle.run.specs.Stream.{At, fed, fed_printed}
-
--- some accepted plan has these rows and lengths, and the state is legal for it
-pub record Running (s : State) (rows : Rows) (lengths : List ℕ) : Type 0 where
-  pub plan : Plan
-  pub lent : Lent plan s rows lengths
 
 -- a run that stood at x, with some bytes held in the buffer, took the bytes t: it stands at y, with others held
 pub record Went (p : Plan) (x : At) (held t : List ℕ) (y : At) (left : List ℕ) : Type 0 where

@@ -6,6 +6,7 @@ mod events;
 mod pieces;
 
 use files::{argument, argument_count, write_out};
+use run::fill_of;
 
 // Plan P and its events.
 fn run_sample(rt: &HostRuntime) {
@@ -16,8 +17,7 @@ fn run_sample(rt: &HostRuntime) {
         &mut out,
         0,
     );
-    let n = r.fill;
-    write_out(rt, &out[..n]);
+    let _ = write_out(rt, &out[..fill_of(r)]);
 }
 
 fn main(rt: HostRuntime) {

@@ -5,5 +5,5 @@ use Rattle.margins.proofs.report_of.Goals as goal
 
 pub returns : goal.returns
 returns c =
-    let m = report_counts c.args.text.now c.args.out.now c.requires (search rules) c.report-ran.ensures.0 c.report-ran.ensures.1 in
+    let m = report_counts c.args.text.now c.args.out.now c.requires (search rules) c.report.ensures.0 c.fill_of.ensures c.report.ensures.1 in
     record { prefix_len = m.0; out_after = m.1 }

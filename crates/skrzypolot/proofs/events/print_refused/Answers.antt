@@ -5,8 +5,8 @@ use Rattle.skrzypolot.proofs.Bounds.{line_fits}
 use Rattle.skrzypolot.proofs.events.print_refused.Goals as goal
 
 pub slice_bounds-out-end : goal.slice_bounds-out-end
-slice_bounds-out-end c = line_fits _ _ _ _ (sym c.in-Fill.is ∙ c.print_refusal-filled.ensures.0) (search rules)
+slice_bounds-out-end c = line_fits _ _ _ _ (sym c.in-Some.is ∙ c.print_refusal.ensures.0) (search rules)
 
 pub slice_bounds-write_out-end : goal.slice_bounds-write_out-end
 slice_bounds-write_out-end c =
-    sym (length-take-le _ _ (line_fits _ _ _ _ (sym c.in-Fill.is ∙ c.print_refusal-filled.ensures.0) (search rules)))
+    sym (length-take-le _ _ (line_fits _ _ _ _ (sym c.in-Some.is ∙ c.print_refusal.ensures.0) (search rules)))

@@ -9,5 +9,5 @@ run_pieces-requires c =
       search rules,
       omega arith,
       omega arith,
-      first_state c.args.r.plan a c.begin.result c.begin.ensures (c.rows_with-rows.ensures c.ceilings.ensures),
+      first_state c.args.r.plan a c.with_ceilings-c.ensures c.begin-stream.result c.begin-stream.ensures,
     )
