@@ -189,7 +189,7 @@ modest_reading text = go (listed_reading text) (modest_listed text)
     go (Err e) w = w
 
 -- numbers of refusals
-pub number_most : (e : Refusal) → number v ≤ 30
+pub number_most : (e : Refusal) → number e ≤ 30
 number_most TooLong = omega arith
 number_most (NotGrammar n) = omega arith
 number_most (KindOrder n) = omega arith
