@@ -1,5 +1,5 @@
 -- The plan of an accepted text is an accepted plan: its tables are of their lengths, and its entries are small.
-use Rattle.std.proofs.Common.{◌≡◌, refl, true, List, [], ◌∷◌, ◌++◌, ℕ, zero, suc, ◌≤◌, ◌<◌, le_of_lt, arith, length, get_or, take, take-suc, Option, None}
+use Rattle.std.proofs.Common.{◌≡◌, refl, true, List, [], ◌∷◌, ◌++◌, ℕ, zero, suc, ◌≤◌, ◌<◌, le_of_lt, arith, length, get_or, take, take-suc, Option, Some, None, Ok}
 use lib.ListN.{get_or-map}
 use lib.Seq.{take-length}
 use Rattle.text.specs.Lines.{lines, body}
@@ -18,7 +18,6 @@ use Rattle.exactly.proofs.SoundPlan.{Sound, sound_accepted}
 use Rattle.exactly.proofs.SoundFacts.{Ranged, sound_ranged}
 use Rattle.exactly.proofs.SoundLines.{sound_empty, sound_line}
 use Rattle.exactly.proofs.SoundKinds.{kind_of_line}
-use Rattle.std.proofs.Common.{Option, Some, None, Ok}
 
 -- the plan of some lines that meet their conditions
 record Built (ls : List (Option Line)) : Type 0 where

@@ -1,5 +1,5 @@
 -- Reading on over a part of a text: from the plan before it to the plan behind it.
-use Rattle.std.proofs.Common.{◌≡◌, refl, ◌∙◌, false, List, [], ◌∷◌, ◌++◌, append_assoc, ℕ, zero, suc, ◌+◌, ◌≤◌, ◌<◌, lt-suc_self, arith, Option}
+use Rattle.std.proofs.Common.{◌≡◌, refl, ◌∙◌, false, List, [], ◌∷◌, ◌++◌, append_assoc, ℕ, zero, suc, ◌+◌, ◌≤◌, ◌<◌, lt-suc_self, arith, Option, Some, None, Result, Ok}
 use native.Mathlib.Nat.{le_step}
 use Rattle.text.specs.Lines.{lines}
 use Rattle.plan.specs.declared.Plan.{Plan}
@@ -9,7 +9,6 @@ use Rattle.reader.specs.Line.{line_of, kind_of}
 use Rattle.reader.specs.Conditions.{not_grammar, kind_order, too_many_rows, no_such_row, out_of_range, twice, two_subsystems, above_budget}
 use Rattle.reader.specs.Reading.{first_of, judged, with_line, read_from}
 use Rattle.exactly.specs.TextOf.{texts}
-use Rattle.std.proofs.Common.{Option, Some, None, Result, Ok}
 
 -- a reading goes on with the rest of a text, after a line of a kind up to k, from the plan p
 pub record Onward (r : Result Plan Refusal) (rest : List ℕ) (k : ℕ) (p : Plan) : Type 0 where

@@ -3,10 +3,10 @@ ghost use Rattle.std.specs.Prelude.{◌≡◌, ◌≤◌, length};
 ghost use Rattle.text.specs.Lines.{lines};
 ghost use Rattle.reader.specs.Reading.{most_bytes, empty_plan, read_from};
 
+use crate::Refusal;
 use crate::build::{empty_plan, with_line};
 use crate::grammar::{kind_of, line_of};
 use crate::judge::judge;
-use crate::Refusal;
 use plan::Plan;
 
 const FEED: u8 = 10;

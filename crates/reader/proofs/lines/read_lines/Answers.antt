@@ -29,8 +29,7 @@ with_line-requires c = room _ _ _ _ c.loop-at.invariant.1 (sym c.in_ok-judge.ens
 
 pub loop-at-preserved : goal.loop-at-preserved
 loop-at-preserved c =
-    let a = sym c.in_ok-judge.ensures in
-    (
+    let a = sym c.in_ok-judge.ensures in (
       c.loop-at.invariant.0
           ∙ read_onward _ _ _ c.find-end.ensures _ _ _ c.if-text-end.false (sym c.in-Some.is ∙ c.line_of.ensures) a
           ∙ ap₂ (read_from _ _) (sym c.kind_of-last.ensures) (sym c.with_line.ensures),
