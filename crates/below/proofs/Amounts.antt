@@ -1,18 +1,8 @@
--- Laws of sum and greatest: how a counting loop starts and goes on, bounds, and that only the numbers below n count.
-use Rattle.std.proofs.Common.{◌≡◌, refl, ap, ◌≢◌, ◌⊎◌, inl, inr, ⊎_elim, ℕ, zero, suc, ◌+◌, ◌*◌, max, ◌≤◌, ◌<◌, not-suc-le-zero, lt-suc_self, add-one, arith}
+-- Laws of sum and greatest: bounds, and that only the numbers below n count.
+use Rattle.std.proofs.Common.{◌≡◌, refl, ap, ◌≢◌, ◌⊎◌, inl, inr, ⊎_elim, ℕ, zero, suc, ◌+◌, ◌*◌, ◌≤◌, ◌<◌, not-suc-le-zero, lt-suc_self, arith}
 use native.Mathlib.Nat.{le_step}
 use Rattle.below.specs.Below.{sum, greatest}
 use Rattle.below.proofs.Search.{last_or_before}
-
--- sum: the loop
-
-pub sum_none : (f : ℕ → ℕ) → sum 0 f ≡ 0
-unfolding sum
-sum_none f = refl
-
-pub sum_next : (n : ℕ) (f : ℕ → ℕ) → sum (n + 1) f ≡ sum n f + f n
-unfolding sum
-sum_next n f = rw add-one
 
 -- sum: entry by entry
 
@@ -67,16 +57,6 @@ pub sum_bounded : (n : ℕ) (f : ℕ → ℕ) (c : ℕ) → ((k : ℕ) → k < n
 unfolding sum
 sum_bounded zero f c l = omega arith
 sum_bounded (suc n) f c l = omega (arith, sum_bounded n f c (λ k h. l k (le_step h)), l n (lt-suc_self n))
-
--- greatest: the loop
-
-pub greatest_none : (f : ℕ → ℕ) → greatest 0 f ≡ 0
-unfolding greatest
-greatest_none f = refl
-
-pub greatest_next : (n : ℕ) (f : ℕ → ℕ) → greatest (n + 1) f ≡ max (greatest n f) (f n)
-unfolding greatest
-greatest_next n f = rw add-one
 
 -- greatest: at least each entry, and at most what bounds each entry
 

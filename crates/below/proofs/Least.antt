@@ -69,21 +69,7 @@ module _ (n k : ℕ) (f : ℕ → ℕ) where
   pub least_kept_at : least n k f < n → first (k + 1) (λ j. eqb (f j) (least n k f)) ≡ first k (λ j. eqb (f j) (least n k f))
   least_kept_at h = first_kept k (λ j. eqb (f j) (least n k f)) (least_reached h)
 
--- a loop that keeps the smallest of several bounds: t is below the next one and below all before
-
-pub below_taken : (t x low new : ℕ) → x < low → new ≡ x → ltb t new ≡ (ltb t low && ltb t x)
-below_taken t x low new h e = rw e (go (ltb t x) refl)
-  where
-    go : (b : Bool) → ltb t x ≡ b → b ≡ (ltb t low && b)
-    go true q = rw (lt-ltb t low (omega (arith, ltb-true t x q)))
-    go false q = sym (and-false (ltb t low))
-
-pub below_kept : (t x low new : ℕ) → low ≤ x → new ≡ low → ltb t new ≡ (ltb t low && ltb t x)
-below_kept t x low new h e = rw e (go (ltb t low) refl)
-  where
-    go : (b : Bool) → ltb t low ≡ b → b ≡ (b && ltb t x)
-    go true q = rw (lt-ltb t x (omega (arith, ltb-true t low q)))
-    go false q = refl
+-- a loop that keeps the smallest of several bounds: t is below it where it is below all before and the next one
 
 pub all_after : (k : ℕ) (p : ℕ → Bool) (b x y : Bool) → x ≡ (b && all k p) → y ≡ (x && p k) → y ≡ (b && all (k + 1) p)
 all_after k p b x y e f = f ∙ rw e (rw all_next (and_assoc b (all k p) (p k)))

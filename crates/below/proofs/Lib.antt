@@ -3,7 +3,5 @@ pub mod Search
 pub mod Amounts
 pub mod Quotient
 pub mod Listed
-pub mod Loops
-pub mod Entries
 pub mod Least
 pub mod Chains

@@ -38,14 +38,6 @@ unfolding all
 all_of zero p f = refl
 all_of (suc n) p f = rw (all_of n p (λ k h. f k (le_step h)), f n (lt-suc_self n))
 
--- all: a number that does not pass makes it false
-pub all_not : (n : ℕ) (p : ℕ → Bool) (k : ℕ) → k < n → p k ≡ false → all n p ≡ false
-all_not n p k h e = go (all n p) refl
-  where
-    go : (b : Bool) → all n p ≡ b → b ≡ false
-    go true q = absurd (true≢false (sym (all_at n p q k h) ∙ e))
-    go false q = refl
-
 pub all_agree : (n : ℕ) (p q : ℕ → Bool) → ((k : ℕ) → k < n → p k ≡ q k) → all n p ≡ all n q
 unfolding all
 all_agree zero p q f = refl
@@ -128,11 +120,6 @@ first_cases n p C kept found missed = go (ltb (first n p) n) refl (p n) refl
 pub first_kept : (n : ℕ) (p : ℕ → Bool) → first n p < n → first (n + 1) p ≡ first n p
 first_kept n p h =
     rw add-one (first_cases n p (λ x. x ≡ first n p) (λ l. refl) (λ l e. omega arith) (λ l e. omega arith))
-
-pub first_found : (n : ℕ) (p : ℕ → Bool) → first n p ≡ n → p n ≡ true → first (n + 1) p ≡ n
-first_found n p h t =
-    rw add-one
-    (first_cases n p (λ x. x ≡ n) (λ l. h) (λ l e. refl) (λ l e. absurd (true≢false (sym t ∙ e))))
 
 -- first: it is at most n, below it no number passes, and below n it passes
 

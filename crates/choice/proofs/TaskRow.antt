@@ -1,11 +1,9 @@
 -- The first row that a search over the rows found, or no row, from what the search says ran and from what its test answers.
-use Rattle.std.proofs.Common.{◌≡◌, ℕ, ◌<◌, ◌≤◌, List, Bool, true, false, sym, subst, arith}
+use Rattle.std.proofs.Common.{◌≡◌, ℕ, ◌<◌, ◌≤◌, Bool, true, false, sym, arith}
 use Rattle.std.specs.Prelude.{Option, Some, None}
 use Rattle.std.specs.Option.{unwrap_or, MatchOption}
-use Rattle.std.specs.Bool.{⊤}
 use Rattle.std.specs.Fn.{CalledAt}
-use Rattle.std.specs.Iterator.{YieldsThen}
-use Rattle.std.specs.List.{FoldsTo}
+use Rattle.std.specs.Iterator.{FindsItem}
 use Rattle.std.specs.declared.ops.Range.{Range}
 use Rattle.std.proofs.iter.Yields.{nat_range_steps}
 use Rattle.std.proofs.lemmas.Iterator.{first_from_Range}
@@ -21,7 +19,8 @@ row_found : (n : ℕ) (p : ℕ → Bool) (r : Option ℕ) → MatchOption r ((k 
 row_found n p None h = rw (first_absent n p (λ k u. h k (omega arith) u)) (sym (row_past n n (omega arith)))
 row_found n p (Some i) h = rw (first_is n p i h.1 h.2 (λ k u. h.3 k (omega arith) u)) (sym (row_there n i h.1))
 
-pub row_over : {F : Type 0} {s : Range ℕ} (n : ℕ) {g : Mut F (Bor ℕ × Unit {0}) Bool} (p : ℕ → Bool) (u : Range ℕ) (f : F) (r : Option ℕ) → (xs : List ℕ) × (j : F) × YieldsThen nat_range_steps s xs r u × FoldsTo (λ p x q. CalledAt g p x false q) f xs j × MatchOption r ⊤ (λ x. (h : F) × CalledAt g j x true h) → s ≡ record { start = 0; end = n } → ((x : ℕ) (b : Bool) (q : F) → CalledAt g f x b q → (q ≡ f) × (b ≡ p x)) → unwrap_or r no_row ≡ or_no_row n (first n p)
-row_over {s = s} n p u f r ran e c =
-    row_found n p r (subst (λ z. MatchOption r ((k : ℕ) → z.start ≤ k → k < z.end → p k ≡ false) (λ i. (z.start ≤ i) × (i < z.end) × (p i ≡ true) × ((k : ℕ) → z.start ≤ k → k < i → p k ≡ false))) e
-    (first_from_Range s u f r (λ k. p k ≡ true) (λ k. p k ≡ false) ran (λ x q k. sym (c x true q k).1) (λ x q k. ((c x false q k).0, sym (c x false q k).1))))
+pub row_over : {F : Type 0} {g : Mut F (Bor ℕ × Unit {0}) Bool} (n : ℕ) (p : ℕ → Bool) (u : Range ℕ) (f : F) (r : Option ℕ) → FindsItem nat_range_steps g (record { start = 0; end = n }) f r u
+    → ((x : ℕ) (b : Bool) (q : F) → CalledAt g f x b q → (q ≡ f) × (b ≡ p x)) → unwrap_or r no_row ≡ or_no_row n (first n p)
+row_over n p u f r ran c =
+    row_found n p r
+    (first_from_Range (record { start = 0; end = n }) u f r (λ k. p k ≡ true) (λ k. p k ≡ false) ran (λ x q k. sym (c x true q k).1) (λ x q k. ((c x false q k).0, sym (c x false q k).1)))

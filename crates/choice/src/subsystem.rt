@@ -1,7 +1,7 @@
 // "Subsystem": the system ceiling, and who is chosen by it.
-ghost use Rattle.std.specs.Prelude.{◌≡◌};
+ghost use Rattle.std.specs.Prelude.{◌≡◌, get_or};
 ghost use Rattle.below.specs.Below.{first};
-ghost use Rattle.state.specs.State.{has_budget};
+ghost use Rattle.state.specs.State.{task_at, has_budget, last_held};
 ghost use Rattle.choice.specs.Columns.{section_ceiling, Found, chosen_by};
 
 use crate::rows::in_section;
@@ -15,29 +15,26 @@ pub struct Section {
     pub holder: u8,
 }
 
-// The ceiling of the global that a task holds; 255 if it holds none.
-#[tactic(auto, unfolding(crate::specs::Columns::section_ceiling))]
-fn section_ceiling(c: &CeiledPlan, s: &State, k: u8) -> u8
-    ensures { result ≡ section_ceiling c.now s.now k }
+// The ceiling of the resource that a task took last.
+fn last_ceiling(c: &CeiledPlan, s: &State, k: u8) -> u8
+    ensures { result ≡ get_or c.now.ceilings (last_held (task_at s.now k)) 0 }
 {
-    if in_section(&c.plan, s, k) {
-        c.ceiling(s.task(k).last_held())
-    } else {
-        255
-    }
+    c.ceiling(s.task(k).last_held())
 }
 
-// "Subsystem": the system ceiling, with the holder of its resource. 255, of a task that holds no global, is below no ceiling.
+// "Subsystem": the system ceiling, with the holder of its resource.
 pub fn system_section(c: &CeiledPlan, s: &State) -> Section
     ensures { Found c.now.plan.subsystems c.now.plan.tasks (section_ceiling c.now s.now) result.ceiling result.holder }
 {
     let mut ceiling = c.plan.subsystems;
     let mut holder: u8 = 255;
     for k in 0..c.plan.tasks {
-        let l = section_ceiling(c, s, k);
-        if l < ceiling {
-            ceiling = l;
-            holder = k;
+        if in_section(&c.plan, s, k) {
+            let l = last_ceiling(c, s, k);
+            if l < ceiling {
+                ceiling = l;
+                holder = k;
+            }
         }
     }
     Section { ceiling, holder }

@@ -64,8 +64,7 @@ fn may_be_taken(p: &Plan, s: &State, subsystem: u8, low: u8, k: u8) -> bool
     ensures { result ≡ taken_below p.now s.now subsystem low k }
 {
     let condition = condition_of(s, k);
-    p.owner(k) == subsystem
-        && ((condition == 2 || condition == 3) || (condition == 1 && k < low))
+    p.owner(k) == subsystem && ((condition == 2 || condition == 3) || (condition == 1 && k < low))
 }
 
 // "Task": the smallest such row; 255 if there is none.

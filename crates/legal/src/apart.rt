@@ -22,7 +22,6 @@ fn sections_apart(c: &CeiledPlan, s: &State, j: u8, k: u8) -> bool
 }
 
 // A task outside a section is apart from all.
-#[tactic(auto, unfolding(crate::specs::Parts::apart_from))]
 fn apart_from(c: &CeiledPlan, s: &State, j: u8) -> bool
     ensures { result ≡ apart_from c.now.plan c.now.ceilings s.now j }
 {

@@ -16,6 +16,7 @@ fn active_before(p: &Plan, s: &State, k: u8, j: u8) -> bool
     j < k && p.owner(j) == p.owner(k) && matches!(s.task(j).condition, 2 | 3)
 }
 
+// Such a task lies below a row.
 #[tactic(auto, unfolding(crate::specs::Parts::below_row, crate::specs::Legal::implies, plan::specs::Plan::taken_before))]
 fn below_row(p: &Plan, s: &State, k: u8, row: u8, j: u8) -> bool
     ensures { result ≡ below_row p.now s.now k row j }
@@ -44,6 +45,7 @@ fn all_below_held(c: &CeiledPlan, s: &State, k: u8, t: &Task) -> bool
     (0..t.count).all(|i| below_held(c, s, k, t, i))
 }
 
+// There is no such task.
 fn none_before(p: &Plan, s: &State, k: u8) -> bool
     ensures { result ≡ all p.now.tasks (λ j. not (active_before p.now s.now k j)) }
 {

@@ -33,6 +33,7 @@ pub fn sections_legal(p: &Plan, s: &State) -> bool
     (0..p.tasks).all(|k| section_legal(p, s, k))
 }
 
+// k is a task of subsystem c in a section.
 #[tactic(auto, unfolding(crate::specs::Parts::section_of))]
 fn section_of(p: &Plan, s: &State, c: u8, k: u8) -> bool
     ensures { result ≡ section_of p.now s.now c k }

@@ -4,6 +4,5 @@ pub mod Ceiling
 pub mod Admission
 pub mod Accepted
 pub mod Facts
-pub mod Lent
 pub mod Parts
 pub mod Ceiled

@@ -6,13 +6,9 @@ ghost use Rattle.plan.specs.Accepted.{accepted};
 
 mod admission;
 mod ceiling;
-mod old;
 mod rows;
 mod says;
-pub mod tables;
 mod uses;
-
-pub use old::{accepted, blocking, ceilings, demand, first_negative, margin};
 
 // A plan that was read. Rows past the counts are all 0. The length of task t at resource r stands at t * 16 + r; 65535 is undeclared.
 #[derive(Clone, Copy)]

@@ -2,4 +2,3 @@ pub mod Update
 pub mod TaskUpdate
 pub mod Fresh
 pub mod CodeStores
-pub mod CodeLent

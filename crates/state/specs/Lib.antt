@@ -2,4 +2,3 @@ pub mod State
 pub mod Update
 pub mod Fresh
 pub mod Sized
-pub mod Lent

@@ -1,18 +1,8 @@
 // The state of a run: its types, a fresh one, one with a thing changed, and what is read of one.
 #![tactic(auto)]
 
-mod altered;
-pub mod beginning;
-mod columns;
 mod one_task;
 mod rows;
-mod section;
-
-pub use altered::{
-    giving_back, idle_task, put_task, readied, started, taking, waiting_for, with_left, with_used,
-};
-pub use columns::{held_at, state_with, task_at};
-pub use section::{in_section, last_held, left_at, remaining, section_left};
 
 // Budget left and section length left are two counts, of two types: one never stands for the other.
 #[derive(Clone, Copy)]
@@ -29,14 +19,6 @@ pub struct Task {
     pub waits: u8,
     pub count: u8,
     pub held: [u8; 4],
-}
-
-// What a state has per subsystem, taken together where the columns of its tasks are lent.
-#[derive(Clone, Copy)]
-pub struct Clocks {
-    pub left: [BudgetLeft; 8],
-    pub refill: [u16; 8],
-    pub used: [u16; 8],
 }
 
 // A state in columns. Per subsystem: budget left, ticks to the next refill, ticks used of its global section. Per task: what Task has, with

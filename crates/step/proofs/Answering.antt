@@ -1,8 +1,6 @@
 -- "Events": what an event gives, by the tests that the code makes on the way.
 use mathlib.Core.Path.{◌≡◌, sym, ap, ◌∙◌}
-use mathlib.Core.List.{List, map}
 use Prim.Native.Nat.{ℕ}
-use lib.ListN.{length, length-map}
 use borrow.Author.Tests.{eq-eqb, ne_eqb}
 use Rattle.plan.specs.declared.Plan.{Plan}
 use Rattle.plan.specs.declared.CeiledPlan.{CeiledPlan}
@@ -75,7 +73,3 @@ after_lent c s L Z kind k r n u e =
       ceilings = L.ceilings;
       legal = rw f at (stepped_legal c.plan s L.accepted Z L.legal kind k r);
     }
-
--- what owning an array of structs tells of its list
-pub unmapped : (X Y : Type 0) (f : X → Y) (l : List X) (n : ℕ) → length (map f l) ≡ n → length l ≡ n
-unmapped X Y f l n e = sym (length-map l f) ∙ e

@@ -1,5 +1,5 @@
 -- What an array made place by place holds: the values of a function that the closure computes, and changes nothing.
-use Rattle.std.proofs.Common.{◌≡◌, ℕ, zero, suc, ◌+◌, ◌<◌, List, length, get_or, subst, ◌∙◌, arith}
+use Rattle.std.proofs.Common.{◌≡◌, ℕ, zero, suc, ◌+◌, ◌<◌, List, get_or, subst, ◌∙◌, arith}
 use Rattle.std.specs.Array.{IsFromFnResultFrom, IsFromFnResult}
 use Rattle.std.specs.Fn.{Called}
 use denote.Param.Members.{Mut}

@@ -17,7 +17,6 @@ use Rattle.plan.specs.Plan.{owner}
 use Rattle.plan.specs.Facts.{Accepted}
 use Rattle.state.specs.declared.State.{State}
 use Rattle.state.specs.State.{idle_task, task_at, is_idle, in_section}
-use Rattle.state.specs.Sized.{Sized}
 use Rattle.state.specs.Update.{with_task, with_used}
 use Rattle.state.proofs.Update.{task_at_with_task, task_at_with_task_other, task_at_with_used}
 use Rattle.state.proofs.TaskUpdate.{idle_sized}

@@ -16,9 +16,8 @@ use Rattle.plan.specs.Plan.{owner}
 use Rattle.plan.specs.Facts.{Accepted}
 use Rattle.plan.proofs.Facts.{row_there}
 use Rattle.state.specs.declared.State.{State}
-use Rattle.state.specs.Sized.{Sized}
 use Rattle.state.specs.State.{most_held, task_at, used_of, in_section}
-use Rattle.state.proofs.Update.{task_at_past, used_of_with_left, sized_with_left}
+use Rattle.state.proofs.Update.{task_at_past, used_of_with_left}
 use Rattle.state.proofs.TaskUpdate.{idle_count}
 use Rattle.legal.proofs.Tasks.{section_global, section_there, section_declares}
 use Rattle.choice.specs.Choice.{chosen, taken, runs, chosen_task}

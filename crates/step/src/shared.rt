@@ -15,7 +15,6 @@ pub fn length_fits_budget(p: &Plan, s: &State, k: u8, r: u8) -> bool
 }
 
 // The columns of a state have the lengths of their arrays: a proof knows it of a state by value. There is nothing to do.
-#[tactic(auto, using(crate::proofs::Answering::unmapped))]
 pub fn sized(s: State)
     ensures { Sized s }
 {

@@ -93,7 +93,7 @@ fn charge(s: &mut State, c: u8)
 }
 
 // (c) The running task k, if any, is started and, inside a global section, its used count rises by one.
-#[tactic(auto, unfolding(crate::specs::Tick::ran))]
+#[tactic(auto, unfolding(crate::specs::Tick::ran), using(state::proofs::Update::used_of_with_task))]
 fn run(p: &Plan, s: &mut State, k: u8)
     ensures { used_of s.old (owner p.now k) < 65535 → s.new ≡ ran p.now s.old k }
 {

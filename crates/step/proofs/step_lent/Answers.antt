@@ -1,7 +1,5 @@
 -- 31, 32, or the event: the tests have made sure of what it asks for.
-use Rattle.std.proofs.Common.{◌≡◌, refl, sym, ap, ◌∙◌, true}
-use Rattle.plan.specs.Accepted.{accepted}
-use Rattle.plan.specs.Ceiled.{ceiled}
+use Rattle.std.proofs.Common.{refl, sym, ◌∙◌}
 use Rattle.step.proofs.Answering.{unread_by, answers_as}
 use Rattle.step.proofs.Stepping.{step_31, step_32, step_on, step_lent}
 use Rattle.step.proofs.step_lent.Goals as goal

@@ -1,8 +1,7 @@
 -- Rows as bytes are as good as those handed over; 4 is a tick, and a larger number no event.
-use Rattle.std.proofs.Common.{rules, sym, ap, ◌≡◌, ◌∙◌, ◌≤◌, arith}
-use Rattle.state.specs.Sized.{Sized}
+use Rattle.std.proofs.Common.{sym, ap, ◌≡◌, ◌∙◌, ◌≤◌, arith}
 use Rattle.step.specs.Lent.{kind_number}
-use Rattle.step.proofs.Answering.{unmapped, answers_as, answered_by}
+use Rattle.step.proofs.Answering.{answers_as, answered_by}
 use Rattle.step.proofs.Narrowing.{kind_most, narrowed, tick_kind, unknown_kind}
 use Rattle.step.proofs.event.stepped.Goals as goal
 use Rattle.step.proofs.event.stepped.Goals.{in-0, in-1, in-2, in-3}

@@ -1,6 +1,6 @@
 -- What (a) leaves is legal with nothing used up, so that (b) and (c) have room.
 use Rattle.std.proofs.Common.{ap, ◌∙◌, arith}
-use Rattle.step.specs.Tick.{refilled, ran}
+use Rattle.step.specs.Tick.{refilled}
 use Rattle.step.proofs.Kept.{Kept}
 use Rattle.step.proofs.Answering.{answers_by}
 use Rattle.step.proofs.WholeTick.{ticked_idle, waited_room, used_room, ticked_in}
