@@ -4,3 +4,4 @@ pub mod Tick
 pub mod Step
 pub mod Strict
 pub mod Lent
+pub mod Refused

@@ -81,10 +81,9 @@ fn at_rows(c: &CeiledPlan, s: &mut State, kind: Kind, k: u8, r: u8) -> Answer
         task: s.task(k),
         running,
     };
-    let n = asked.refusal(&c.plan);
-    if n != 0 {
+    if let Some(refusal) = asked.refusal(&c.plan) {
         return Answer {
-            answer: n,
+            answer: refusal.number(),
             subsystem: x.subsystem,
             task: running,
             ended: 0,
