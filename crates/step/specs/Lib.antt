@@ -5,3 +5,4 @@ pub mod Step
 pub mod Strict
 pub mod Lent
 pub mod Refused
+pub mod Kinds
