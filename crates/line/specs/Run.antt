@@ -10,6 +10,7 @@ use Rattle.state.specs.Fresh.{fresh}
 use Rattle.step.specs.declared.Outcome.{Outcome}
 use Rattle.step.specs.Events.{answered}
 use Rattle.step.specs.Step.{stepped}
+use Rattle.step.specs.Kinds.{kind_number}
 use Rattle.line.specs.declared.Event.{Event}
 use Rattle.line.specs.Event.{event_of}
 use Rattle.line.specs.Printed.{printed, printed_refusal}
@@ -20,7 +21,7 @@ most_lines = 9999999
 
 -- a line that is no event is answered 11
 unfoldable pub event_gives : Plan → State → Option Event → Outcome
-event_gives p s (Some e) = stepped p s e.kind e.task e.resource
+event_gives p s (Some e) = stepped p s (kind_number e.kind) e.task e.resource
 event_gives p s None = answered p s 11
 
 -- what an event line gives
