@@ -9,9 +9,9 @@ ghost use Rattle.step.specs.Events.{answered, locked, unlocked};
 ghost use Rattle.step.specs.Step.{done, stepped, answer_of};
 
 use crate::order::{Asked, RowKind};
-use crate::{Answer, Kind};
 use crate::shared::{length_fits_budget, sized};
 use crate::tick::tick;
+use crate::{Answer, Kind};
 use choice::{choose, runs};
 use plan::{CeiledPlan, Plan};
 use state::{State, Task};

@@ -76,7 +76,11 @@ impl RowKind {
                 Refusal::FifthHeld,
             ],
             RowKind::Unlock => &[Refusal::NoSuchRow, Refusal::NotRunning, Refusal::NotLast],
-            RowKind::End => &[Refusal::NoSuchRow, Refusal::NotRunning, Refusal::StillHolding],
+            RowKind::End => &[
+                Refusal::NoSuchRow,
+                Refusal::NotRunning,
+                Refusal::StillHolding,
+            ],
         }
     }
 
