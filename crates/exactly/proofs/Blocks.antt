@@ -3,10 +3,7 @@ use Rattle.std.proofs.Common.{◌≡◌, refl, sym, ap, ◌∙◌, Bool, true, f
 use mathlib.Core.Bool.{and-eq-true_iff}
 use Rattle.below.proofs.Listed.{length_listed}
 use Rattle.text.specs.Bytes.{same}
-use Rattle.plan.specs.declared.Plan.{Plan}
 use Rattle.plan.specs.Accepted.{accepted}
-use Rattle.reader.specs.Numbers.{is_accepted}
-use Rattle.reader.specs.Reading.{reading}
 use Rattle.exactly.specs.TextOf.{text_of}
 use Rattle.exactly.proofs.PlanShape.{Shaped}
 use Rattle.exactly.proofs.Sound.{read_shaped, read_accepted}
@@ -28,32 +25,27 @@ plan_shaped b = record {
 
 -- the text of that plan is a text with the block
 pub block_has_text : (b : List ℕ) → is_block b ≡ true → HasText b
-unfolding is_block is_accepted
+unfolding is_block
 block_has_text b e = go ((and-eq-true_iff (accepted (plan_of b)) (same (block_of (plan_of b)) b)).0 e)
   where
     go : (accepted (plan_of b) ≡ true) × (same (block_of (plan_of b)) b ≡ true) → HasText b
     go h =
-        let r = text_reads_back (plan_of b) (plan_shaped b) h.0 in
         record {
           text = text_of (plan_of b);
-          reads = rw r;
-          writes = rw r (same_true (block_of (plan_of b)) b h.1);
+          plan = plan_of b;
+          reads = text_reads_back (plan_of b) (plan_shaped b) h.0;
+          writes = same_true (block_of (plan_of b)) b h.1;
         }
 
 -- the plan of a text with the block is the plan that the block writes
 module _ (b : List ℕ) (h : HasText b) where
-  p : Plan
-  p = (reading h.text).plan
-
-  shaped : Shaped p
-  unfolding p
+  shaped : Shaped h.plan
   shaped = read_shaped h.text h.reads
 
-  written : plan_of b ≡ p
-  unfolding p
+  written : plan_of b ≡ h.plan
   written =
       ap plan_of (sym h.writes)
-      ∙ plan_of_block_of p (record {
+      ∙ plan_of_block_of h.plan (record {
         periods = shaped.periods_long;
         budgets = shaped.budgets_long;
         owners = shaped.owners_long;
@@ -62,7 +54,7 @@ module _ (b : List ℕ) (h : HasText b) where
       })
 
   pub text_is_block : is_block b ≡ true
-  unfolding is_block p
+  unfolding is_block
   text_is_block = rw (written, read_accepted h.text h.reads, h.writes) (same_refl b)
 
 -- so among blocks of the right length 31 is answered exactly where no accepted plan text has the block

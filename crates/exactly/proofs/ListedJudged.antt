@@ -1,37 +1,44 @@
 -- A line is judged by the first condition that it breaks, and reading on stops at the first line that breaks one.
-use Rattle.std.proofs.Common.{◌≡◌, refl, sym, ap, ◌∙◌, ⊎_elim, Bool, true, false, List, [], ◌∷◌, ◌++◌, ℕ, zero, suc, ◌+◌, ◌≤◌, ◌<◌, not-suc-le-zero, add-one, arith, length, take, drop, length-drop, take-suc, take_all, drop-cons, ne_eqb, Option, None}
-use mathlib.Core.List.{map}
+use mathlib.Core.Path.{◌≡◌, refl, sym, ap, ◌∙◌}
+use mathlib.Core.Logic.{⊎_elim}
+use mathlib.Core.Bool.{Bool, true, false}
+use mathlib.Core.List.{List, [], ◌∷◌, ◌++◌, map}
+use Prim.Native.Nat.{ℕ, zero, suc, ◌+◌, ◌≤◌, ◌<◌}
+use native.Mathlib.Nat.{not-suc-le-zero}
+use native.Mathlib.Numerals.{add-one}
+use native.Mathlib.Omega.{arith}
+use lib.ListN.{length, take, drop, length-drop}
+use lib.Seq.{take-suc, take_all, drop-cons}
 use Rattle.below.proofs.Search.{last_or_before}
 use Rattle.plan.specs.declared.Plan.{Plan}
-use Rattle.reader.specs.declared.Verdict.{Verdict}
-use Rattle.reader.specs.declared.Verdict.TheVariants.{Accepted}
+use Rattle.reader.specs.declared.refusals.Refusal.{Refusal}
 use Rattle.reader.specs.declared.Line.{Line}
-use Rattle.reader.specs.declared.Reading.{Reading}
-use Rattle.reader.specs.Numbers.{number, beside, is_accepted}
+use Rattle.reader.specs.Numbers.{number, beside}
 use Rattle.reader.specs.Line.{line_of, kind_of}
-use Rattle.reader.specs.Reading.{empty_plan, first_of, judged, with_line, refused, read_from}
+use Rattle.reader.specs.Reading.{empty_plan, first_of, judged, with_line, read_from}
 use Rattle.exactly.specs.Listed.{line_at, Condition, LineMeets, plan_after}
 use Rattle.exactly.proofs.ListedTied.{Tied}
 use Rattle.exactly.proofs.ListedPairs.{tied_line}
 use Rattle.exactly.proofs.ListedTests.{Decides, decides_grammar, decides_order, decides_rows_left, decides_rows_there, decides_range, decides_once, decides_one_subsystem, decides_budget}
+use Rattle.std.proofs.Common.{Option, Some, None, Result, Ok, Err}
 
--- a verdict on line n that tells the first of some conditions that is broken, if one is
-pub data Judgement (C : ℕ → Type 0) (n : ℕ) : Verdict → Type 0 where
-  fine : ((c : ℕ) → C c) → Judgement C n Accepted
-  bad : (v : Verdict) (c : ℕ) → ((d : ℕ) → d < c → C d) → (C c → ⊥) → number v ≡ 21 + c → beside v ≡ n → Judgement C n v
+-- what is said of line n, which tells the first of some conditions that is broken, if one is
+pub data Judgement (C : ℕ → Type 0) (n : ℕ) : Result Unit Refusal → Type 0 where
+  fine : ((c : ℕ) → C c) → Judgement C n (Ok tt)
+  bad : (v : Refusal) (c : ℕ) → ((d : ℕ) → d < c → C d) → (C c → ⊥) → number v ≡ 21 + c → beside v ≡ n → Judgement C n (Err v)
 
--- tests in the order of the conditions from c on, each with its verdict; after the last, no condition is left
-abbrev Tries : (ℕ → Type 0) → ℕ → ℕ → List (Bool × Verdict) → Type 0
+-- tests in the order of the conditions from c on, each with its refusal; after the last, no condition is left
+abbrev Tries : (ℕ → Type 0) → ℕ → ℕ → List (Bool × Refusal) → Type 0
 Tries C n c [] = ((d : ℕ) → d < c → C d) → (d : ℕ) → C d
 Tries C n c (t ∷ ts) = (((d : ℕ) → d < c → C d) → Decides t.0 (C c)) × (number t.1 ≡ 21 + c) × (beside t.1 ≡ n) × Tries C n (suc c) ts
 
-first_broken : (C : ℕ → Type 0) (n c : ℕ) (ts : List (Bool × Verdict)) → Tries C n c ts → ((d : ℕ) → d < c → C d) → Judgement C n (first_of ts)
+first_broken : (C : ℕ → Type 0) (n c : ℕ) (ts : List (Bool × Refusal)) → Tries C n c ts → ((d : ℕ) → d < c → C d) → Judgement C n (first_of ts)
 unfolding first_of
 first_broken C n c [] w met = fine (w met)
 first_broken C n c (t ∷ ts) w met = go t.0 (w.0 met) (first_broken C n (suc c) ts w.3)
   where
     go : (b : Bool) → Decides b (C c) → (((d : ℕ) → d < suc c → C d) → Judgement C n (first_of ts))
-        → Judgement C n (elim b [ true ↦ t.1 | false ↦ first_of ts ])
+        → Judgement C n (elim b [ true ↦ Err t.1 | false ↦ first_of ts ])
     go true d f = bad t.1 c met (d.broken refl) w.1 w.2
     go false d f = f (λ j h. ⊎_elim (here j) (met j) (last_or_before h))
       where
@@ -104,13 +111,13 @@ plan_after_line p [] l = refl
 plan_after_line p (x ∷ ls) l = plan_after_line (with_line p x) ls l
 
 -- what reading on comes to: the plan of all lines, which meet their conditions, or the first line that breaks one
-pub data Outcome (all : List (Option Line)) : Reading → Type 0 where
+pub data Outcome (all : List (Option Line)) : Result Plan Refusal → Type 0 where
   whole : ((i : ℕ) → i < length all → LineMeets all i) → (last : ℕ) → Tied all last (plan_after empty_plan all)
-      → Outcome all (record { verdict = Accepted; plan = plan_after empty_plan all })
-  stopped : (v : Verdict) (i c : ℕ) → i < length all → ((j : ℕ) → j < i → LineMeets all j)
+      → Outcome all (Ok (plan_after empty_plan all))
+  stopped : (v : Refusal) (i c : ℕ) → i < length all → ((j : ℕ) → j < i → LineMeets all j)
       → ((d : ℕ) → d < c → Condition d (take i all) (line_at all i))
       → (Condition c (take i all) (line_at all i) → ⊥)
-      → number v ≡ 21 + c → beside v ≡ i + 1 → Outcome all (refused v)
+      → number v ≡ 21 + c → beside v ≡ i + 1 → Outcome all (Err v)
 
 module _ (all : List (Option Line)) where
   -- the line that comes next
@@ -146,7 +153,7 @@ module _ (all : List (Option Line)) where
       here j q = rw (q, next_line i l ls e) m
 
   -- at the end
-  outcome_end : (i last : ℕ) (p : Plan) → drop i all ≡ [] → SoFar i last p → Outcome all (record { verdict = Accepted; plan = p })
+  outcome_end : (i last : ℕ) (p : Plan) → drop i all ≡ [] → SoFar i last p → Outcome all (Ok p)
   outcome_end i last p e w = rw (w.plan_is, same) (whole (λ j h. w.meets j (omega (arith, done))) last (rw (w.plan_is, same) at w.tied))
     where
       done : length all ≤ i
@@ -156,16 +163,14 @@ module _ (all : List (Option Line)) where
       same = take_all i all done
 
   -- at one more line, by what is said of it
-  outcome_line : (i last : ℕ) (p : Plan) (l : Option Line) (ls : List (Option Line)) → drop i all ≡ l ∷ ls → SoFar i last p → (v : Verdict) → Judgement (λ c. Condition c (take i all) l) (i + 1) v
-      → (r : Reading) → (SoFar (suc i) (kind_of l) (with_line p l) → Outcome all r) → Outcome all (elim (is_accepted v) [ true ↦ r | false ↦ refused v ])
-  unfolding is_accepted
+  outcome_line : (i last : ℕ) (p : Plan) (l : Option Line) (ls : List (Option Line)) → drop i all ≡ l ∷ ls → SoFar i last p → (v : Result Unit Refusal) → Judgement (λ c. Condition c (take i all) l) (i + 1) v
+      → (r : Result Plan Refusal) → (SoFar (suc i) (kind_of l) (with_line p l) → Outcome all r) → Outcome all (elim v [ Ok u ↦ r | Err e ↦ Err e ])
   outcome_line i last p l ls e w v j r f = go j
     where
-      go : {v : Verdict} → Judgement (λ c. Condition c (take i all) l) (i + 1) v → Outcome all (elim (is_accepted v) [ true ↦ r | false ↦ refused v ])
+      go : {v : Result Unit Refusal} → Judgement (λ c. Condition c (take i all) l) (i + 1) v → Outcome all (elim v [ Ok u ↦ r | Err e ↦ Err e ])
       go (fine m) = f (so_far_next i last p l ls e w m)
       go (bad v c m b n k) =
-          rw (ne_eqb (number v) 0 (omega arith))
-          (stopped v i c (next_there i l ls e) w.meets (rw (next_line i l ls e) m) (rw (next_line i l ls e) b) n k)
+          stopped v i c (next_there i l ls e) w.meets (rw (next_line i l ls e) m) (rw (next_line i l ls e) b) n k
 
   pub outcome : (rest : List (List ℕ)) (i last : ℕ) (p : Plan) → drop i all ≡ map line_of rest → SoFar i last p → Outcome all (read_from rest (i + 1) last p)
   unfolding read_from

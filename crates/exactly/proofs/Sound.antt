@@ -1,11 +1,11 @@
 -- The plan of an accepted text is an accepted plan: its tables are of their lengths, and its entries are small.
-use Rattle.std.proofs.Common.{◌≡◌, refl, true, List, [], ◌∷◌, ◌++◌, ℕ, zero, suc, ◌≤◌, ◌<◌, le_of_lt, arith, length, get_or, take, take-suc, Option, None}
+use Rattle.std.proofs.Common.{◌≡◌, refl, true, List, [], ◌∷◌, ◌++◌, ℕ, zero, suc, ◌≤◌, ◌<◌, le_of_lt, arith, length, get_or, take, take-suc, Option, Some, None, Ok}
 use lib.ListN.{get_or-map}
 use lib.Seq.{take-length}
 use Rattle.text.specs.Lines.{lines, body}
+use Rattle.plan.specs.declared.Plan.{Plan}
 use Rattle.plan.specs.Accepted.{accepted}
 use Rattle.reader.specs.declared.Line.{Line}
-use Rattle.reader.specs.Numbers.{is_accepted}
 use Rattle.reader.specs.Line.{line_of, kind_of}
 use Rattle.reader.specs.Reading.{empty_plan, reading}
 use Rattle.exactly.specs.Listed.{lines_of, line_at, count_of, Condition, LineMeets, plan_after, plan_in, Meets}
@@ -54,28 +54,28 @@ kinds_of_text : (text : List ℕ) (i : ℕ) → kind_said (line_at (lines_of tex
 unfolding lines_of line_at
 kinds_of_text text i = rw (← empty_line, get_or-map line_of (lines text) i []) (kind_of_line (get_or (lines text) i []))
 
-module _ (text : List ℕ) (e : is_accepted (reading text).verdict ≡ true) where
+module _ (text : List ℕ) {p : Plan} (e : reading text ≡ Ok p) where
   meets : Meets text
   meets = accepted_meets text e
 
   all_built : Built (lines_of text)
   all_built = built (lines_of text) meets.each (kinds_of_text text)
 
-  pub read_sound : Sound (reading text).plan
+  pub read_sound : Sound p
   unfolding plan_in
   read_sound = rw (accepted_plan text e) all_built.sound
 
-  pub read_shaped : Shaped (reading text).plan
+  pub read_shaped : Shaped p
   read_shaped = read_sound.shaped
 
-  pub read_ranged : Ranged (reading text).plan
-  read_ranged = sound_ranged (reading text).plan read_sound
+  pub read_ranged : Ranged p
+  read_ranged = sound_ranged p read_sound
 
   count : (plan_in text).subsystems ≡ count_of 0 (lines_of text)
   unfolding plan_in
   count = all_built.tied.tables.subsystems_are
 
-  pub read_accepted : accepted (reading text).plan ≡ true
+  pub read_accepted : accepted p ≡ true
   unfolding plan_in
   read_accepted =
       rw (accepted_plan text e)

@@ -6,10 +6,7 @@ use Rattle.plan.specs.Plan.{place, length_of}
 use Rattle.plan.specs.Admission.{first_negative, admitted}
 use Rattle.plan.specs.Accepted.{accepted}
 use Rattle.plan.proofs.Facts.{row_there, fits_admitted, accepted_facts}
-use Rattle.reader.specs.declared.Verdict.TheVariants.{Accepted}
-use Rattle.reader.specs.declared.Reading.{Reading}
-use Rattle.reader.specs.Numbers.{is_accepted}
-use Rattle.reader.specs.Reading.{empty_plan, read_from, judged_whole, reading}
+use Rattle.reader.specs.Reading.{empty_plan, read_from, judged_rowless, listed_reading, judged_margins, reading}
 use Rattle.exactly.specs.TextOf.{texts, subsystem_text, task_text, resource_text, use_text, text_of}
 use Rattle.exactly.proofs.PlanShape.{Shaped}
 use Rattle.exactly.proofs.SoundPlan.{Sound}
@@ -20,6 +17,7 @@ use Rattle.exactly.proofs.TextOfRows.{tasks_to, resources_to, with_lengths, read
 use Rattle.exactly.proofs.TextOfEntered.{entered_to, entered_to_long, entered_to_there, entered_to_else}
 use Rattle.exactly.proofs.TextOfUses.{reads_uses}
 use Rattle.exactly.proofs.TextOfLong.{text_long}
+use Rattle.std.proofs.Common.{Ok}
 
 module _ (p : Plan) (w : Sound p) where
   -- when all lengths are entered they are the plan's
@@ -74,34 +72,29 @@ module _ (p : Plan) (w : Sound p) where
       last : Reads 3 3 us (with_lengths p (opened_to p.tasks p.resources)) p
       last = subst (λ (q : Plan). Reads 3 3 us (with_lengths p (opened_to p.tasks p.resources)) q) same_plan (reads_uses p w)
 
-  read_whole : read_from (lines (text_of p)) 1 0 empty_plan ≡ record { verdict = Accepted; plan = p }
+  read_whole : read_from (lines (text_of p)) 1 0 empty_plan ≡ Ok p
   unfolding lines read_from
   read_whole = rw (append-nil (text_of p)) at (reads_text [] 1 0 (omega arith)).goes_on
 
 -- nothing is refused behind the last line
-whole_accepted : (p : Plan) → 1 ≤ p.subsystems → admitted p ≡ true → judged_whole p ≡ record { verdict = Accepted; plan = p }
-unfolding judged_whole admitted
-whole_accepted p some a =
-    rw (
-      ne_eqb p.subsystems 0 (omega arith),
-      le-ltb (first_negative p) p.subsystems (leb-true p.subsystems (first_negative p) a),
-      judged_whole,
-    )
+some_rows : (p : Plan) → 1 ≤ p.subsystems → judged_rowless p ≡ Ok p
+unfolding judged_rowless
+some_rows p some = rw (judged_rowless, ne_eqb p.subsystems 0 (omega arith))
 
--- the plan read is judged as a whole
-finished : Reading → Reading
-finished r = elim (is_accepted r.verdict) [ true ↦ judged_whole r.plan | false ↦ r ]
+fine_margins : (p : Plan) → admitted p ≡ true → judged_margins p ≡ Ok p
+unfolding judged_margins admitted
+fine_margins p a = rw (judged_margins, le-ltb (first_negative p) p.subsystems (leb-true p.subsystems (first_negative p) a))
 
-whole_read : (p : Plan) (r : Reading) → r ≡ record { verdict = Accepted; plan = p } → judged_whole p ≡ record { verdict = Accepted; plan = p }
-    → finished r ≡ record { verdict = Accepted; plan = p }
-unfolding finished is_accepted
-whole_read p r e h = ap finished e ∙ h
-
-pub text_reads_back : (p : Plan) → Shaped p → accepted p ≡ true → reading (text_of p) ≡ record { verdict = Accepted; plan = p }
-unfolding reading finished
+pub text_reads_back : (p : Plan) → Shaped p → accepted p ≡ true → reading (text_of p) ≡ Ok p
+unfolding reading listed_reading
 text_reads_back p shape e =
     let A = accepted_facts p e in
     let w = accepted_sound p shape A in
-    rw (le-ltb 16384 (length (text_of p)) (text_long p w), reading)
-    (whole_read p (read_from (lines (text_of p)) 1 0 empty_plan) (read_whole p w)
-    (whole_accepted p A.some_subsystem (fits_admitted p A)))
+    rw (
+      reading,
+      listed_reading,
+      le-ltb 16384 (length (text_of p)) (text_long p w),
+      read_whole p w,
+      some_rows p A.some_subsystem,
+      fine_margins p (fits_admitted p A),
+    )

@@ -1,19 +1,17 @@
 -- Reading on over a part of a text: from the plan before it to the plan behind it.
-use Rattle.std.proofs.Common.{◌≡◌, refl, ◌∙◌, false, List, [], ◌∷◌, ◌++◌, append_assoc, ℕ, zero, suc, ◌+◌, ◌≤◌, ◌<◌, lt-suc_self, arith, Option}
+use Rattle.std.proofs.Common.{◌≡◌, refl, ◌∙◌, false, List, [], ◌∷◌, ◌++◌, append_assoc, ℕ, zero, suc, ◌+◌, ◌≤◌, ◌<◌, lt-suc_self, arith, Option, Some, None, Result, Ok}
 use native.Mathlib.Nat.{le_step}
 use Rattle.text.specs.Lines.{lines}
 use Rattle.plan.specs.declared.Plan.{Plan}
-use Rattle.reader.specs.declared.Verdict.TheVariants.{Accepted}
+use Rattle.reader.specs.declared.refusals.Refusal.{Refusal}
 use Rattle.reader.specs.declared.Line.{Line}
-use Rattle.reader.specs.declared.Reading.{Reading}
-use Rattle.reader.specs.Numbers.{is_accepted}
 use Rattle.reader.specs.Line.{line_of, kind_of}
 use Rattle.reader.specs.Conditions.{not_grammar, kind_order, too_many_rows, no_such_row, out_of_range, twice, two_subsystems, above_budget}
 use Rattle.reader.specs.Reading.{first_of, judged, with_line, read_from}
 use Rattle.exactly.specs.TextOf.{texts}
 
 -- a reading goes on with the rest of a text, after a line of a kind up to k, from the plan p
-pub record Onward (r : Reading) (rest : List ℕ) (k : ℕ) (p : Plan) : Type 0 where
+pub record Onward (r : Result Plan Refusal) (rest : List ℕ) (k : ℕ) (p : Plan) : Type 0 where
   pub line : ℕ
   pub last : ℕ
   pub order : last ≤ k
@@ -56,13 +54,13 @@ pub record Passes (p : Plan) (last : ℕ) (l : Option Line) : Type 0 where
   pub one_subsystem : two_subsystems p l ≡ false
   pub within : above_budget p l ≡ false
 
-passes_judged : (p : Plan) (last n : ℕ) (l : Option Line) → Passes p last l → judged p last n l ≡ Accepted
+passes_judged : (p : Plan) (last n : ℕ) (l : Option Line) → Passes p last l → judged p last n l ≡ Ok tt
 unfolding judged first_of
 passes_judged p last n l w = rw (w.grammar, w.order, w.rows_left, w.rows_there, w.range, w.once, w.one_subsystem, w.within)
 
 passes_read : (p : Plan) (last n : ℕ) (x : List ℕ) (xs : List (List ℕ)) → Passes p last (line_of x)
     → read_from (x ∷ xs) n last p ≡ read_from xs (n + 1) (kind_of (line_of x)) (with_line p (line_of x))
-unfolding read_from is_accepted
+unfolding read_from
 passes_read p last n x xs w = rw (passes_judged p last n (line_of x) w, read_from)
 
 -- one line

@@ -105,6 +105,7 @@ pub fn read_file<R: Read, E: Eprint>(
     ensures end { IfOk result (λ n. n < length buf.new → IsAtEnd (R.remaining file.new)) }
 {
     let mut at: usize = 0;
+    // a while, since each read says for itself how far it came
     while at < buf.len() {
         let n = match file.read(&mut buf[at..]) {
             Ok(n) => n,

@@ -1,7 +1,7 @@
 -- The three ends of the call read.
-use Rattle.std.proofs.Common.{◌≡◌, true, false, List, ℕ, length, eq-eqb, ne_eqb}
-use Rattle.reader.specs.declared.Reading.{Reading}
-use Rattle.reader.specs.Numbers.{number, beside, is_accepted}
+use Rattle.std.proofs.Common.{◌≡◌, sym, List, ℕ, Ok, Err, length, eq-eqb, ne_eqb}
+use Rattle.reader.specs.declared.refusals.Refusal.{Refusal}
+use Rattle.reader.specs.Numbers.{number, beside}
 use Rattle.reader.specs.Reading.{reading}
 use Rattle.plan.specs.declared.Plan.{Plan}
 use Rattle.image.specs.Block.{block_bytes, block_of}
@@ -19,13 +19,13 @@ module _ (text block : List ℕ) (before : ℕ) where
   unfolding read_call
   wrong_length h = rw (ne_eqb _ _ h, read_call)
 
-  module _ (right : length block ≡ block_bytes) (r : Reading) (reads : r ≡ reading text) where
+  module _ (right : length block ≡ block_bytes) where
     -- a refusal: the block is kept
-    pub refused : is_accepted r.verdict ≡ false → read_left (number r.verdict) block (beside r.verdict) ≡ read_call text block before
+    pub refused : {e : Refusal} → reading text ≡ Err e → read_left (number e) block (beside e) ≡ read_call text block before
     unfolding read_call read_gives
-    refused h = rw (reads, eq-eqb _ _ right, rw reads at h, read_call, read_gives)
+    refused q = sym (rw (read_call, eq-eqb _ _ right, q, read_gives))
 
     -- an accepted plan
-    pub accepted : is_accepted r.verdict ≡ true → read_left 0 (block_of r.plan) 0 ≡ read_call text block before
+    pub accepted : {p : Plan} → reading text ≡ Ok p → read_left 0 (block_of p) 0 ≡ read_call text block before
     unfolding read_call read_gives
-    accepted h = rw (reads, eq-eqb _ _ right, rw reads at h, read_call, read_gives)
+    accepted q = sym (rw (read_call, eq-eqb _ _ right, q, read_gives))

@@ -1,6 +1,6 @@
 -- "Calls from C": what skrzypolot_margin leaves behind.
-use Rattle.std.specs.Prelude.{List, ℕ, ℤ}
-use Rattle.reader.specs.Numbers.{asked_number, asked_value}
+use Rattle.std.specs.Prelude.{List, ℕ, ℤ, pos, Ok, Err}
+use Rattle.reader.specs.Numbers.{unasked_number, unasked_beside}
 use Rattle.reader.specs.Margin.{asked}
 
 -- the number returned and the margin, as the call leaves them
@@ -14,4 +14,4 @@ margin_left n m = record { number = n; margin = m }
 
 -- 0 and the margin; or a refusal with the number beside it in the margin's place
 unfoldable pub margin_call : List ℕ → ℕ → MarginCall
-margin_call text row = record { number = asked_number (asked text row); margin = asked_value (asked text row) }
+margin_call text row = elim (asked text row) [ Ok m ↦ margin_left 0 m | Err e ↦ margin_left (unasked_number e) (pos (unasked_beside e)) ]

@@ -20,12 +20,14 @@ pub fn skrzypolot_read(text: &[u8], block: &mut [u8], beside: &mut u32) -> u32
     if block.len() != 1108 {
         return 34;
     }
-    let r = reader::read(text);
-    if !reader::numbers::is_accepted(r.verdict) {
-        *beside = reader::numbers::beside(r.verdict);
-        return reader::numbers::number(r.verdict);
-    }
-    write_block(&r.plan, block);
+    let plan = match reader::read(text) {
+        Ok(plan) => plan,
+        Err(refused) => {
+            *beside = refused.beside();
+            return refused.number();
+        }
+    };
+    write_block(&plan, block);
     *beside = 0;
     0
 }
@@ -35,9 +37,16 @@ pub fn skrzypolot_read(text: &[u8], block: &mut [u8], beside: &mut u32) -> u32
 pub fn skrzypolot_margin(text: &[u8], row: u32, margin: &mut i64) -> u32
     ensures { margin_left result margin.new ≡ margin_call text.now row }
 {
-    let a = reader::ask(text, row);
-    *margin = reader::numbers::asked_value(a);
-    reader::numbers::asked_number(a)
+    match reader::ask(text, row) {
+        Ok(m) => {
+            *margin = m;
+            0
+        }
+        Err(refused) => {
+            *margin = refused.beside() as i64;
+            refused.number()
+        }
+    }
 }
 
 // The image of the state that a run of the block's plan starts in. 34 where a buffer has the wrong length, 31 where no accepted plan has the

@@ -1,8 +1,7 @@
 -- "Calls from C": the plan block, 1,108 bytes, both ways, and when a block is refused.
-use Rattle.std.specs.Prelude.{◌≡◌, Bool, true, false, ◌&&◌, List, [], ◌∷◌, ◌++◌, ℕ, ◌+◌, ◌*◌, eqb, length}
+use Rattle.std.specs.Prelude.{◌≡◌, Bool, true, false, ◌&&◌, List, [], ◌∷◌, ◌++◌, ℕ, ◌+◌, ◌*◌, eqb, length, Ok}
 use Rattle.below.specs.Listed.{listed}
 use Rattle.text.specs.Bytes.{same}
-use Rattle.reader.specs.Numbers.{is_accepted}
 use Rattle.reader.specs.Reading.{reading}
 use Rattle.plan.specs.declared.Plan.{Plan}
 use Rattle.plan.specs.Limits.{most_subsystems, most_tasks, most_resources}
@@ -62,8 +61,9 @@ is_block b = accepted (plan_of b) && same (block_of (plan_of b)) b
 -- "31 exactly when": some accepted plan text has the block
 pub record HasText (b : List ℕ) : Type 0 where
   pub text : List ℕ
-  pub reads : is_accepted (reading text).verdict ≡ true
-  pub writes : block_of (reading text).plan ≡ b
+  pub plan : Plan
+  pub reads : reading text ≡ Ok plan
+  pub writes : block_of plan ≡ b
 
 -- 34: wrong length; 31: the block of no accepted plan; else 0
 unfoldable pub block_number : List ℕ → ℕ

@@ -7,9 +7,11 @@ use Rattle.text.specs.Bytes.{bytes, same}
 use Rattle.text.specs.Lines.{tab, line_feed, onto, body, empty_or_none, fields}
 use Rattle.text.specs.Numbers.{number, numbers, of_none, of_one, of_two}
 use Rattle.text.proofs.Numbers.{number_long}
+use Rattle.step.specs.declared.Kind.{Kind}
+use Rattle.step.specs.declared.Kind.TheVariants.{Release, Lock, Unlock, End, Tick}
 use Rattle.line.specs.declared.Event.{Event}
 use Rattle.line.specs.Event.{of_name, of_fields, event_of}
-use Rattle.line.specs.Named.{kind_of, uses_one, uses_two, of_kind}
+use Rattle.line.specs.Named.{kind_of, of_kind}
 use Rattle.line.proofs.Same.{same_lengths}
 use Rattle.line.proofs.Behind.{numbers_not, numbers_is}
 use Rattle.line.proofs.Names.{by_kind}
@@ -75,15 +77,13 @@ rows_many : (name : List ℕ) (n m k : ℕ) (ns : List ℕ) → of_name name (n 
 unfolding of_kind of_one of_two of_none
 rows_many name n m k ns = by_kind name _ ∙ go (kind_of name)
   where
-    many : (a b c : Bool) → ◌≡◌ {A = Option Event} (elim a [ true ↦ None | false ↦ elim b [ true ↦ None | false ↦ elim c [ true ↦ None | false ↦ None ] ] ]) None
-    many true b c = refl
-    many false true c = refl
-    many false false true = refl
-    many false false false = refl
-
-    go : (o : Option ℕ) → option_and_then (λ kind. of_kind kind (n ∷ m ∷ k ∷ ns)) o ≡ None
+    go : (o : Option Kind) → option_and_then (λ kind. of_kind kind (n ∷ m ∷ k ∷ ns)) o ≡ None
     go None = refl
-    go (Some kind) = many (uses_one kind) (uses_two kind) (eqb kind 4)
+    go (Some Release) = refl
+    go (Some Lock) = refl
+    go (Some Unlock) = refl
+    go (Some End) = refl
+    go (Some Tick) = refl
 
 heavy : (fs : List (List ℕ)) → 20 < weight fs → of_fields fs ≡ None
 unfolding of_fields weight

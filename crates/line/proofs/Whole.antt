@@ -7,6 +7,7 @@ use Rattle.text.specs.Lines.{tab, line_feed, until, body, empty_or_none, fields}
 use Rattle.text.specs.Numbers.{numbers}
 use Rattle.text.proofs.Parted.{Parted, Whole}
 use Rattle.text.proofs.Lines.{body_feed, body_whole, fields_tab, fields_whole}
+use Rattle.step.specs.declared.Kind.{Kind}
 use Rattle.line.specs.Event.{of_fields, event_of}
 use Rattle.line.specs.Named.{kind_of, of_kind}
 use Rattle.line.proofs.Names.{fields_kind, fields_other}
@@ -14,13 +15,13 @@ use Rattle.line.proofs.Parts.{found_there, found_none, found_le}
 
 -- the line without its line feed: its name alone, or a name and rows
 module _ {line : List ℕ} {m : ℕ} where
-  pub read_alone : {kind : ℕ} → kind_of (take m line) ≡ Some kind → Whole tab line → length line ≤ m
+  pub read_alone : {kind : Kind} → kind_of (take m line) ≡ Some kind → Whole tab line → length line ≤ m
       → of_fields (fields line) ≡ option_and_then (of_kind kind) (numbers [])
   read_alone {kind} k w h =
       let e : kind_of line ≡ Some kind = rw (take_all m line h) at k in
       rw (fields_whole w) (fields_kind line [] e)
 
-  pub read_rows : {kind : ℕ} → kind_of (take m line) ≡ Some kind → Parted tab line m
+  pub read_rows : {kind : Kind} → kind_of (take m line) ≡ Some kind → Parted tab line m
       → of_fields (fields line) ≡ option_and_then (of_kind kind) (numbers (fields (drop (suc m) line)))
   read_rows k p = rw (fields_tab p) (fields_kind (take m line) _ k)
 

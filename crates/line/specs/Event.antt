@@ -4,26 +4,27 @@ use Rattle.std.specs.Prelude.{Option, None, Some}
 use Rattle.text.specs.Bytes.{bytes, same}
 use Rattle.text.specs.Lines.{body, fields}
 use Rattle.text.specs.Numbers.{numbers, of_none, of_one, of_two}
-use Rattle.step.specs.Refusals.{release, lock, unlock, end, tick}
+use Rattle.step.specs.declared.Kind.{Kind}
+use Rattle.step.specs.declared.Kind.TheVariants.{Release, Lock, Unlock, End, Tick}
 use Rattle.line.specs.declared.Event.{Event}
 
 -- an event by its kind, its task row and its resource row
-abbrev pub known : ℕ → ℕ → ℕ → Option Event
+abbrev pub known : Kind → ℕ → ℕ → Option Event
 known kind task resource = Some (record { kind = kind; task = task; resource = resource })
 
 -- the kind of the name, with just the rows that it uses; other rows are 0 and not read
 unfoldable pub of_name : List ℕ → List ℕ → Option Event
 of_name name ns =
     elim (same name (bytes "release")) [
-      | true ↦ of_one None (λ k. known release k 0) ns
+      | true ↦ of_one None (λ k. known Release k 0) ns
       | false ↦ elim (same name (bytes "lock")) [
-        | true ↦ of_two None (known lock) ns
+        | true ↦ of_two None (known Lock) ns
         | false ↦ elim (same name (bytes "unlock")) [
-          | true ↦ of_two None (known unlock) ns
+          | true ↦ of_two None (known Unlock) ns
           | false ↦ elim (same name (bytes "end")) [
-            | true ↦ of_one None (λ k. known end k 0) ns
+            | true ↦ of_one None (λ k. known End k 0) ns
             | false ↦ elim (same name (bytes "tick")) [
-              | true ↦ of_none None (known tick 0 0) ns
+              | true ↦ of_none None (known Tick 0 0) ns
               | false ↦ None
             ]
           ]

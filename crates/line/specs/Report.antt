@@ -1,13 +1,12 @@
 -- The admission report: a line a row, or the refusal of the plan.
-use Rattle.std.specs.Prelude.{true, false, List, [], ◌∷◌, ◌++◌, ℕ, zero, suc, ℤ, pos, negsuc}
+use Rattle.std.specs.Prelude.{List, [], ◌∷◌, ◌++◌, ℕ, zero, suc, ℤ, pos, negsuc, Ok, Err}
 use Rattle.text.specs.Bytes.{bytes}
 use Rattle.text.specs.Numbers.{decimal}
 use Rattle.plan.specs.declared.Plan.{Plan}
 use Rattle.plan.specs.Plan.{period, budget}
 use Rattle.plan.specs.Admission.{blocking, demand, margin}
 use Rattle.reader.specs.Numbers.{number, beside}
-use Rattle.reader.specs.Reading.{reading}
-use Rattle.reader.specs.Margin.{has_margins}
+use Rattle.reader.specs.Reading.{listed_reading}
 use Rattle.line.specs.Printed.{spaced, printed_refusal}
 
 -- a signed number
@@ -28,9 +27,4 @@ report_lines p (suc n) = report_lines p n ++ report_line p n
 
 -- a plan that meets no refusal but 30 has margins to report
 unfoldable pub report : List ℕ → List ℕ
-report text =
-    let r = reading text in
-    elim (has_margins r) [
-      | true ↦ report_lines r.plan r.plan.subsystems
-      | false ↦ printed_refusal (number r.verdict) (beside r.verdict)
-    ]
+report text = elim (listed_reading text) [ Ok p ↦ report_lines p p.subsystems | Err e ↦ printed_refusal (number e) (beside e) ]

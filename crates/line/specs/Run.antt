@@ -1,15 +1,16 @@
 -- "The run program": a plan text and an event text to the printed text.
-use Rattle.std.specs.Prelude.{true, false, List, [], ◌∷◌, ◌++◌, ℕ, ◌+◌, take}
-use Rattle.std.specs.Prelude.{Option, Some, None}
+use Rattle.std.specs.Prelude.{List, [], ◌∷◌, ◌++◌, ℕ, ◌+◌, take}
+use Rattle.std.specs.Prelude.{Option, Some, None, Ok, Err}
 use Rattle.text.specs.Lines.{lines}
 use Rattle.plan.specs.declared.Plan.{Plan}
-use Rattle.reader.specs.Numbers.{number, beside, is_accepted}
+use Rattle.reader.specs.Numbers.{number, beside}
 use Rattle.reader.specs.Reading.{reading}
 use Rattle.state.specs.declared.State.{State}
 use Rattle.state.specs.Fresh.{fresh}
 use Rattle.step.specs.declared.Outcome.{Outcome}
 use Rattle.step.specs.Events.{answered}
 use Rattle.step.specs.Step.{stepped}
+use Rattle.step.specs.Kinds.{kind_number}
 use Rattle.line.specs.declared.Event.{Event}
 use Rattle.line.specs.Event.{event_of}
 use Rattle.line.specs.Printed.{printed, printed_refusal}
@@ -20,7 +21,7 @@ most_lines = 9999999
 
 -- a line that is no event is answered 11
 unfoldable pub event_gives : Plan → State → Option Event → Outcome
-event_gives p s (Some e) = stepped p s e.kind e.task e.resource
+event_gives p s (Some e) = stepped p s (kind_number e.kind) e.task e.resource
 event_gives p s None = answered p s 11
 
 -- what an event line gives
@@ -43,6 +44,4 @@ printed_run p events = printed_from 1 (outcomes p (fresh p) (take most_lines (li
 
 -- a refused plan prints its refusal alone; an accepted one runs from its fresh state
 unfoldable pub run : List ℕ → List ℕ → List ℕ
-run plan events =
-    let r = reading plan in
-    elim (is_accepted r.verdict) [ true ↦ printed_run r.plan events | false ↦ printed_refusal (number r.verdict) (beside r.verdict) ]
+run plan events = elim (reading plan) [ Ok p ↦ printed_run p events | Err e ↦ printed_refusal (number e) (beside e) ]

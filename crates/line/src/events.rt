@@ -7,30 +7,31 @@ ghost use Rattle.line.specs.Event.{known, event_of, of_fields};
 ghost use Rattle.line.specs.Named.{kind_of, of_kind};
 
 use crate::Event;
+use step::Kind;
 use text::{find, number_of};
 
 // The kind of a name, if it names one. The names are compared as wholes: a match on them goes byte by byte and leaves some thirty returns to prove.
 #[tactic(auto, unfolding(crate::specs::Named::kind_of, text::specs::Bytes::bytes), using(crate::proofs::Same::same_slices))]
-fn kind_of(name: &[u8]) -> Option<u32>
+fn kind_of(name: &[u8]) -> Option<Kind>
     ensures { result ≡ kind_of name.now }
 {
     if name == b"release".as_slice() {
-        Some(0)
+        Some(Kind::Release)
     } else if name == b"lock".as_slice() {
-        Some(1)
+        Some(Kind::Lock)
     } else if name == b"unlock".as_slice() {
-        Some(2)
+        Some(Kind::Unlock)
     } else if name == b"end".as_slice() {
-        Some(3)
+        Some(Kind::End)
     } else if name == b"tick".as_slice() {
-        Some(4)
+        Some(Kind::Tick)
     } else {
         None
     }
 }
 
 // A task row, a tab and a resource row, which is the rest of the line: a further tab makes it no number.
-fn two_rows(kind: u32, rest: &[u8]) -> Option<Event>
+fn two_rows(kind: Kind, rest: &[u8]) -> Option<Event>
     ensures { result ≡ option_and_then (of_two None (known kind)) (numbers (fields rest.now)) }
 {
     let t = find(rest, 0, b'\t');
@@ -47,11 +48,11 @@ fn two_rows(kind: u32, rest: &[u8]) -> Option<Event>
 }
 
 // The rows behind a name and its tab. A task row alone is the rest of the line.
-fn rows_of(kind: u32, rest: &[u8]) -> Option<Event>
+fn rows_of(kind: Kind, rest: &[u8]) -> Option<Event>
     ensures { result ≡ option_and_then (of_kind kind) (numbers (fields rest.now)) }
 {
     match kind {
-        0 | 3 => {
+        Kind::Release | Kind::End => {
             let task = number_of(rest)?;
             Some(Event {
                 kind,
@@ -59,8 +60,8 @@ fn rows_of(kind: u32, rest: &[u8]) -> Option<Event>
                 resource: 0,
             })
         }
-        1 | 2 => two_rows(kind, rest),
-        _ => None,
+        Kind::Lock | Kind::Unlock => two_rows(kind, rest),
+        Kind::Tick => None,
     }
 }
 
@@ -73,14 +74,14 @@ fn event_in(body: &[u8]) -> Option<Event>
     if t < body.len() {
         return rows_of(kind, &body[t + 1..]);
     }
-    if kind != 4 {
-        return None;
+    match kind {
+        Kind::Tick => Some(Event {
+            kind,
+            task: 0,
+            resource: 0,
+        }),
+        _ => None,
     }
-    Some(Event {
-        kind,
-        task: 0,
-        resource: 0,
-    })
 }
 
 // An event line with its line feed. No event has more than 20 bytes, so that a longer line is not looked into.

@@ -69,6 +69,7 @@ impl Scratch {
         ensures room { length self.new ≡ length (decimal number) + length self.old }
     {
         let mut n = number;
+        // a while: the digits end where the number does, and no index counts them
         while 9 < n {
             self.byte(b'0' + (n % 10) as u8);
             n /= 10;

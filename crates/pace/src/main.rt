@@ -4,12 +4,25 @@
 
 use files::{argument, argument_count, open_file, read_file};
 use plan::{CeiledPlan, Plan};
+use reader::read_listed;
 use state::State;
 use std::fs::File;
 use step::Answer;
 use step::event::stepped;
 
 const KINDS: [u32; 16] = [4, 4, 4, 4, 4, 4, 4, 0, 0, 0, 1, 1, 1, 2, 2, 3];
+
+// What a refused plan is paced as.
+const NO_ROWS: Plan = Plan {
+    subsystems: 0,
+    tasks: 0,
+    resources: 0,
+    periods: [0; 8],
+    budgets: [0; 8],
+    owners: [0; 32],
+    kinds: [0; 16],
+    lengths: [0; 512],
+};
 
 // The next number of the generator.
 fn next(x: u64) -> u64 {
@@ -50,7 +63,7 @@ fn pace_file(rt: &HostRuntime, file: &mut File, path: &[u8]) {
     let Ok(n) = read_file(rt, file, path, &mut buf) else {
         return;
     };
-    pace(rt, reader::read(&buf[..n]).plan);
+    pace(rt, read_listed(&buf[..n]).unwrap_or(NO_ROWS));
 }
 
 fn main(rt: HostRuntime) {

@@ -7,7 +7,6 @@ use lib.ListN.{length}
 use Rattle.supply.specs.Charges.{count}
 use Rattle.plan.specs.declared.Plan.{Plan}
 use Rattle.plan.proofs.Facts.{accepted_facts}
-use Rattle.reader.specs.Reading.{reading}
 use Rattle.state.specs.Fresh.{fresh}
 use Rattle.step.specs.declared.Outcome.{Outcome}
 use Rattle.step.specs.Step.{stepped}
@@ -56,4 +55,6 @@ module _ (p : Plan) (b : List ℕ) (L : Lent p b) where
 
 -- demand 3 in C
 pub budgets_exact_in_c : BudgetsExactInC
-budgets_exact_in_c text buffer beside z image h = host_exact (reading text).plan (read_call text buffer beside).block (read_lent text buffer beside z) image h
+budgets_exact_in_c text buffer beside z =
+    let l = read_lent text buffer beside z in
+    record { plan = l.plan; reads = l.reads; runs = host_exact l.plan (read_call text buffer beside).block l.lends }

@@ -6,12 +6,11 @@ use Prim.Native.Nat.{ℕ}
 use native.Mathlib.Omega.{arith}
 use lib.Dec.{eqb}
 use lib.ListN.{length, length-append}
-use borrow.Author.Tests.{eq-eqb}
-use Rattle.below.proofs.Tests.{clash}
 use Rattle.plan.specs.declared.Plan.{Plan}
 use Rattle.plan.specs.Accepted.{accepted}
-use Rattle.reader.specs.declared.Reading.{Reading}
-use Rattle.reader.specs.Numbers.{number, beside, is_accepted}
+use Rattle.reader.specs.declared.refusals.Refusal.{Refusal}
+use Rattle.reader.specs.declared.refusals.Refusal.TheVariants.{TooLong, NotGrammar, KindOrder, TooManyRows, NoSuchRow, OutOfRange, Twice, TwoSubsystems, AboveBudget, NoSubsystem, NegativeMargin}
+use Rattle.reader.specs.Numbers.{number, beside}
 use Rattle.reader.specs.Reading.{reading}
 use Rattle.image.specs.Block.{block_bytes, block_of, plan_of, is_block}
 use Rattle.image.proofs.WordLaws.{length_words}
@@ -20,7 +19,8 @@ use Rattle.image.proofs.BlockLaws.{subsystems_long, plan_of_block_of}
 use Rattle.exactly.proofs.PlanShape.{Shaped}
 use Rattle.exactly.proofs.Sound.{read_shaped, read_accepted}
 use Rattle.exactly.proofs.Blocks.{text_is_block}
-use Rattle.host.specs.Read.{ReadCall, read_gives, read_call}
+use Rattle.host.specs.Read.{ReadCall, read_left, read_gives, read_call}
+use Rattle.std.specs.Prelude.{Result, Ok, Err}
 
 -- a block that a host lends, and the plan that it writes
 pub record Lent (p : Plan) (b : List ℕ) : Type 0 where
@@ -47,35 +47,48 @@ block_long p S =
     (omega (arith, subsystems_long p (sized p S), length_words p.lengths, S.owners_long, S.kinds_long, S.lengths_long))
 
 -- the block of an accepted text
-lent : (text : List ℕ) → is_accepted (reading text).verdict ≡ true → Lent (reading text).plan (block_of (reading text).plan)
-lent text e = record {
+lent : (text : List ℕ) (p : Plan) → reading text ≡ Ok p → Lent p (block_of p)
+lent text p e = record {
   accepts = read_accepted text e;
-  long = block_long (reading text).plan (read_shaped text e);
-  block = text_is_block (block_of (reading text).plan) (record { text = text; reads = e; writes = refl });
-  plan = plan_of_block_of (reading text).plan (sized (reading text).plan (read_shaped text e));
+  long = block_long p (read_shaped text e);
+  block = text_is_block (block_of p) (record { text = text; plan = p; reads = e; writes = refl });
+  plan = plan_of_block_of p (sized p (read_shaped text e));
 }
+
+-- no refusal has the number 0
+number_some : (e : Refusal) → number e ≡ 0 → ⊥
+number_some TooLong z = omega arith
+number_some (NotGrammar n) z = omega arith
+number_some (KindOrder n) z = omega arith
+number_some (TooManyRows n) z = omega arith
+number_some (NoSuchRow n) z = omega arith
+number_some (OutOfRange n) z = omega arith
+number_some (Twice n) z = omega arith
+number_some (TwoSubsystems n) z = omega arith
+number_some (AboveBudget n) z = omega arith
+number_some NoSubsystem z = omega arith
+number_some (NegativeMargin n) z = omega arith
+
+-- a text that was read, and the block lent for its plan
+pub record ReadLent (text block : List ℕ) : Type 0 where
+  pub plan : Plan
+  pub reads : reading text ≡ Ok plan
+  pub lends : Lent plan block
 
 -- the call read answers 0 only with that block
 module _ (text buffer : List ℕ) (before : ℕ) where
   -- what a call left, if it answered 0
   Gives : ReadCall → Type 0
-  Gives c = c.number ≡ 0 → Lent (reading text).plan c.block
+  Gives c = c.number ≡ 0 → ReadLent text c.block
 
   reading_gives : Gives (read_gives (reading text) buffer)
-  unfolding Gives read_gives is_accepted
-  reading_gives = go (is_accepted (reading text).verdict) refl
+  unfolding Gives read_gives
+  reading_gives = go (reading text) refl
     where
-      r : Reading
-      r = reading text
-
-      go : (b : Bool) → is_accepted (reading text).verdict ≡ b
-          → Gives
-          (elim b [
-            | true ↦ record { number = 0; block = block_of r.plan; beside = 0 }
-            | false ↦ record { number = number r.verdict; block = buffer; beside = beside r.verdict }
-          ])
-      go true e = λ z. lent text e
-      go false e = λ z. absurd (clash (eq-eqb (number (reading text).verdict) 0 z) e)
+      go : (r : Result Plan Refusal) → reading text ≡ r
+          → Gives (elim r [ Ok p ↦ read_left 0 (block_of p) 0 | Err e ↦ read_left (number e) buffer (beside e) ])
+      go (Ok p) e = λ z. record { plan = p; reads = e; lends = lent text p e }
+      go (Err v) e = λ z. absurd (number_some v z)
 
   call_gives : Gives (read_call text buffer before)
   unfolding Gives read_call
@@ -85,6 +98,6 @@ module _ (text buffer : List ℕ) (before : ℕ) where
       go true = reading_gives
       go false = λ z. absurd (omega arith)
 
-  pub read_lent : (read_call text buffer before).number ≡ 0 → Lent (reading text).plan (read_call text buffer before).block
+  pub read_lent : (read_call text buffer before).number ≡ 0 → ReadLent text (read_call text buffer before).block
   unfolding Gives
   read_lent = call_gives

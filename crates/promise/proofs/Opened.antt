@@ -12,7 +12,6 @@ use Rattle.plan.specs.Plan as PlanPlan
 use Rattle.reader.specs.Conditions as ReaderConditions
 use Rattle.reader.specs.Line as ReaderLine
 use Rattle.reader.specs.Margin as ReaderMargin
-use Rattle.reader.specs.Numbers as ReaderNumbers
 use Rattle.reader.specs.Reading as ReaderReading
 use Rattle.state.specs.Fresh as StateFresh
 use Rattle.state.specs.State as StateState
@@ -40,7 +39,7 @@ unfolding PlanAccepted.counts_fit PlanAccepted.subsystem_fits PlanAccepted.task_
 plan_open = tt
 
 unfoldable pub reader_open : Unit {0}
-unfolding ReaderConditions.not_grammar ReaderConditions.kind_order ReaderConditions.too_many_rows ReaderConditions.no_such_row ReaderConditions.out_of_range ReaderConditions.twice ReaderConditions.two_subsystems ReaderConditions.above_budget ReaderLine.of_numbers ReaderLine.of_kind ReaderLine.of_kind_field ReaderLine.of_fields ReaderLine.line_of ReaderLine.kind_of ReaderMargin.has_margins ReaderMargin.asked_of ReaderMargin.asked ReaderNumbers.is_accepted ReaderReading.empty_plan ReaderReading.first_of ReaderReading.judged ReaderReading.opened ReaderReading.with_subsystem ReaderReading.with_task ReaderReading.with_resource ReaderReading.with_use ReaderReading.with_line ReaderReading.refused ReaderReading.read_from ReaderReading.judged_whole ReaderReading.reading
+unfolding ReaderConditions.not_grammar ReaderConditions.kind_order ReaderConditions.too_many_rows ReaderConditions.no_such_row ReaderConditions.out_of_range ReaderConditions.twice ReaderConditions.two_subsystems ReaderConditions.above_budget ReaderLine.of_numbers ReaderLine.of_kind ReaderLine.of_kind_field ReaderLine.of_fields ReaderLine.line_of ReaderLine.kind_of ReaderMargin.asked_of ReaderMargin.asked_by ReaderMargin.asked ReaderReading.empty_plan ReaderReading.first_of ReaderReading.judged ReaderReading.opened ReaderReading.with_subsystem ReaderReading.with_task ReaderReading.with_resource ReaderReading.with_use ReaderReading.with_line ReaderReading.read_from ReaderReading.judged_rowless ReaderReading.listed_reading ReaderReading.judged_margins ReaderReading.reading
 reader_open = tt
 
 unfoldable pub state_open : Unit {0}

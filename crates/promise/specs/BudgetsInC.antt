@@ -1,5 +1,5 @@
 -- Demand 3 over the calls from C: a plan text that is read, a fresh image on its block, and any numbers given to one step after the other.
-use Rattle.std.specs.Prelude.{◌≡◌, List, [], ◌∷◌, map, ℕ, ◌<◌, length}
+use Rattle.std.specs.Prelude.{◌≡◌, List, [], ◌∷◌, map, ℕ, ◌<◌, length, Ok}
 use Rattle.supply.specs.Charges.{count}
 use Rattle.plan.specs.declared.Plan.{Plan}
 use Rattle.reader.specs.Reading.{reading}
@@ -33,8 +33,13 @@ pub record HostExact (p : Plan) (block image : List ℕ) : Type 0 where
   pub runs : (subsystem running ended : ℕ) (es : List Event)
       → CallsExact p es (step_calls block (step_left 0 (fresh_call block image).image subsystem running ended) es)
 
+-- a text that was read: its plan, and the run on the block that was written for it, with any buffer of an image's length
+pub record ReadExact (text block : List ℕ) : Type 0 where
+  pub plan : Plan
+  pub reads : reading text ≡ Ok plan
+  pub runs : (image : List ℕ) → length image ≡ image_bytes → HostExact plan block image
+
 -- demand 3 in C: for every text that the reader accepts, the block it wrote and any buffer of an image's length
 abbrev pub BudgetsExactInC : Type 0
 BudgetsExactInC =
-    (text buffer : List ℕ) (beside : ℕ) → (read_call text buffer beside).number ≡ 0
-    → (image : List ℕ) → length image ≡ image_bytes → HostExact (reading text).plan (read_call text buffer beside).block image
+    (text buffer : List ℕ) (beside : ℕ) → (read_call text buffer beside).number ≡ 0 → ReadExact text (read_call text buffer beside).block

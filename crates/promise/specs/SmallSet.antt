@@ -1,9 +1,10 @@
 -- The small proved set: document 01's plan P, its events, and the cases that are proved of them, in one table.
-use Rattle.std.specs.Prelude.{◌≡◌, List, [], ◌∷◌, ◌++◌, ℕ, ◌-◌, ℤ, pos, negsuc, get_or}
+use Rattle.std.specs.Prelude.{◌≡◌, List, [], ◌∷◌, ◌++◌, ℕ, ◌-◌, ℤ, pos, negsuc, get_or, Result, Ok, Err}
 use Prim.Native.String.{String}
 use Rattle.text.specs.Bytes.{bytes}
 use Rattle.text.specs.Lines.{lines}
-use Rattle.reader.specs.declared.Asked.TheVariants.{Margin}
+use Rattle.plan.specs.declared.Plan.{Plan}
+use Rattle.reader.specs.declared.refusals.Refusal.{Refusal}
 use Rattle.reader.specs.Numbers.{number, beside}
 use Rattle.reader.specs.Reading.{reading}
 use Rattle.reader.specs.Margin.{asked}
@@ -29,11 +30,16 @@ pub data Case : Type 0 where
   -- this plan text is refused with these two numbers
   is_refused : String → ℕ → ℕ → Case
 
+-- a reading that is a refusal with these two numbers
+abbrev pub RefusedWith : Result Plan Refusal → ℕ → ℕ → Type 0
+RefusedWith (Ok p) n b = ⊥
+RefusedWith (Err e) n b = (number e ≡ n) × (beside e ≡ b)
+
 -- what each case says of the definitions
 abbrev pub Holds : Case → Type 0
 Holds (prints n line) = get_or (lines (run (plan_with "6") events)) (n - 1) [] ≡ bytes line
-Holds (has_margin budget m) = asked (plan_with budget) 1 ≡ Margin m
-Holds (is_refused text n b) = (number (reading (bytes text)).verdict ≡ n) × (beside (reading (bytes text)).verdict ≡ b)
+Holds (has_margin budget m) = asked (plan_with budget) 1 ≡ Ok m
+Holds (is_refused text n b) = RefusedWith (reading (bytes text)) n b
 
 -- each case of a table holds
 abbrev pub AllHold : List Case → Type 0

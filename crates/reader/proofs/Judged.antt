@@ -1,20 +1,21 @@
 -- Laws of what is said of a line: how the order of the table is followed.
-use Rattle.std.proofs.Common.{◌≡◌, Bool, true, false, not, ◌&&◌, [], ◌∷◌, ℕ, ◌<◌, eqb, Option, Some}
+use Rattle.std.proofs.Common.{◌≡◌, Bool, true, false, not, ◌&&◌, [], ◌∷◌, ℕ, ◌<◌, eqb, Option, Some, Err}
 use borrow.Author.Tests.{lt-leb}
 use Rattle.below.specs.Below.{any}
 use Rattle.plan.specs.declared.Plan.{Plan}
 use Rattle.plan.specs.Plan.{is_global, declares, owner}
-use Rattle.reader.specs.declared.Verdict.TheVariants.{NotGrammar, NoSuchRow, OutOfRange, Twice, TwoSubsystems, AboveBudget}
+use Rattle.reader.specs.declared.refusals.Refusal.TheVariants.{NotGrammar, NoSuchRow, OutOfRange, Twice, TwoSubsystems, AboveBudget}
 use Rattle.reader.specs.declared.Line.{Line}
 use Rattle.reader.specs.declared.Line.TheVariants.{Uses}
 use Rattle.reader.specs.Conditions.{not_grammar, too_many_rows, no_such_row, out_of_range, twice, two_subsystems, above_budget}
 use Rattle.reader.specs.Reading.{first_of, judged}
 use Rattle.reader.specs.Judged.{judged_rows}
 
--- 21
-pub judged_grammar : (p : Plan) (last n : ℕ) (l : Option Line) → not_grammar l ≡ true → judged p last n l ≡ NotGrammar n
-unfolding judged first_of
-judged_grammar p last n l e = rw (judged, e)
+-- 21, then 22, then the rest
+module _ (p : Plan) (last n : ℕ) (l : Option Line) where
+  pub judged_grammar : not_grammar l ≡ true → judged p last n l ≡ Err (NotGrammar n)
+  unfolding judged first_of
+  judged_grammar e = rw (judged, e)
 
 -- the tests of a U line
 pub use_tests : (p : Plan) (n t r l : ℕ) {a b c d e : Bool}

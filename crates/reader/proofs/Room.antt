@@ -1,54 +1,41 @@
 -- A line that was accepted has room in the plan, and leaves no more rows than may be.
-use Rattle.std.proofs.Common.{◌≡◌, refl, sym, ap, ◌∙◌, Bool, true, false, ◌&&◌, ◌||◌, cond, true≢false, List, ◌∷◌, ℕ, ◌≤◌, arith, leb, eqb, leb-true, leb-false, eqb-true, Option, Some, None}
-use mathlib.Core.Bool.{false≢true, and-eq-true_iff}
-use borrow.Author.Tests.{not-false}
+use mathlib.Core.Path.{◌≡◌, refl}
+use mathlib.Core.Bool.{Bool, true, false, ◌&&◌, ◌||◌, cond, true≢false, and-eq-true_iff}
+use mathlib.Core.List.{List, ◌∷◌}
+use Prim.Native.Nat.{ℕ, ◌≤◌}
+use native.Mathlib.Omega.{arith}
+use lib.Dec.{leb, eqb}
+use borrow.Author.Tests.{leb-true, leb-false, eqb-true, not-false}
 use Rattle.plan.specs.declared.Plan.{Plan}
 use Rattle.plan.specs.Limits.{longest}
 use Rattle.plan.specs.Plan.{is_global}
-use Rattle.reader.specs.declared.Verdict.{Verdict}
-use Rattle.reader.specs.declared.Verdict.TheVariants.{Accepted, TooLong, NotGrammar, KindOrder, TooManyRows, NoSuchRow, OutOfRange, Twice, TwoSubsystems, AboveBudget, NoSubsystem, NegativeMargin}
+use Rattle.reader.specs.declared.refusals.Refusal.{Refusal}
 use Rattle.reader.specs.declared.Line.{Line}
 use Rattle.reader.specs.declared.Line.TheVariants.{Subsystem, Task, Resource, Uses}
-use Rattle.reader.specs.Numbers.{is_accepted}
 use Rattle.reader.specs.Conditions.{too_many_rows, no_such_row, out_of_range}
 use Rattle.reader.specs.Reading.{empty_plan, first_of, judged, with_subsystem, with_task, with_resource, with_use, with_line}
 use Rattle.reader.specs.Room.{Counts, Room}
+use Rattle.std.proofs.Common.{Option, Some, None, Ok}
 
-pub accepted_is : (v : Verdict) → is_accepted v ≡ true → v ≡ Accepted
-unfolding is_accepted
-accepted_is Accepted e = refl
-accepted_is TooLong e = absurd (false≢true e)
-accepted_is (NotGrammar n) e = absurd (false≢true e)
-accepted_is (KindOrder n) e = absurd (false≢true e)
-accepted_is (TooManyRows n) e = absurd (false≢true e)
-accepted_is (NoSuchRow n) e = absurd (false≢true e)
-accepted_is (OutOfRange n) e = absurd (false≢true e)
-accepted_is (Twice n) e = absurd (false≢true e)
-accepted_is (TwoSubsystems n) e = absurd (false≢true e)
-accepted_is (AboveBudget n) e = absurd (false≢true e)
-accepted_is NoSubsystem e = absurd (false≢true e)
-accepted_is (NegativeMargin n) e = absurd (false≢true e)
-
--- accepted: a test in front was false, and those behind it accept
-first_passed : (b : Bool) (v : Verdict) (ts : List (Bool × Verdict)) → is_accepted v ≡ false → first_of ((b, v) ∷ ts) ≡ Accepted
-    → (b ≡ false) × (first_of ts ≡ Accepted)
-unfolding first_of is_accepted
-first_passed true v ts r e = absurd (true≢false (sym (ap is_accepted e) ∙ r))
-first_passed false v ts r e = (refl, e)
+-- passed: a test in front was false, and those behind it pass
+first_passed : (b : Bool) (v : Refusal) (ts : List (Bool × Refusal)) {u : Unit} → first_of ((b, v) ∷ ts) ≡ Ok u → (b ≡ false) × (first_of ts ≡ Ok u)
+unfolding first_of
+first_passed true v ts e = absurd (cc)
+first_passed false v ts e = (refl, e)
 
 record Passed (p : Plan) (l : Option Line) : Type 0 where
   pub left : too_many_rows p l ≡ false
   pub there : no_such_row p l ≡ false
   pub fits : out_of_range p l ≡ false
 
-passed : (p : Plan) (last n : ℕ) (l : Option Line) → judged p last n l ≡ Accepted → Passed p l
-unfolding judged is_accepted
+passed : (p : Plan) (last n : ℕ) (l : Option Line) {u : Unit} → judged p last n l ≡ Ok u → Passed p l
+unfolding judged
 passed p last n l e =
-    let a = first_passed _ _ _ refl e in
-    let b = first_passed _ _ _ refl a.1 in
-    let c = first_passed _ _ _ refl b.1 in
-    let d = first_passed _ _ _ refl c.1 in
-    let f = first_passed _ _ _ refl d.1 in
+    let a = first_passed _ _ _ e in
+    let b = first_passed _ _ _ a.1 in
+    let c = first_passed _ _ _ b.1 in
+    let d = first_passed _ _ _ c.1 in
+    let f = first_passed _ _ _ d.1 in
     record { left = c.0; there = d.0; fits = f.0 }
 
 neither : (a b : Bool) → (a || b) ≡ false → (a ≡ false) × (b ≡ false)
@@ -74,7 +61,7 @@ room_of p (Some (Uses task resource length)) c q =
     (omega (arith, leb-false p.tasks task r.0), omega (arith, leb-false p.resources resource r.1), within (is_global p resource) length (not-false _ q.fits))
 room_of p None c q = tt
 
-pub room : (p : Plan) (last n : ℕ) (l : Option Line) → Counts p → judged p last n l ≡ Accepted → Room p l
+pub room : (p : Plan) (last n : ℕ) (l : Option Line) {u : Unit} → Counts p → judged p last n l ≡ Ok u → Room p l
 room p last n l c e = room_of p l c (passed p last n l e)
 
 pub counts_empty : Counts empty_plan

@@ -1,13 +1,12 @@
--- "Admission", its table: the number of each verdict, and the number returned beside it.
-use Rattle.std.specs.Prelude.{ℕ, Bool, eqb, ℤ, pos}
-use Rattle.reader.specs.declared.Verdict.{Verdict}
-use Rattle.reader.specs.declared.Verdict.TheVariants.{Accepted, TooLong, NotGrammar, KindOrder, TooManyRows, NoSuchRow, OutOfRange, Twice, TwoSubsystems, AboveBudget, NoSubsystem, NegativeMargin}
-use Rattle.reader.specs.declared.Asked.{Asked}
-use Rattle.reader.specs.declared.Asked.TheVariants.{Margin, NoRow, Refused}
+-- "Admission", its table: the number of each refusal, and the number returned beside it.
+use Rattle.std.specs.Prelude.{ℕ}
+use Rattle.reader.specs.declared.refusals.Refusal.{Refusal}
+use Rattle.reader.specs.declared.refusals.Refusal.TheVariants.{TooLong, NotGrammar, KindOrder, TooManyRows, NoSuchRow, OutOfRange, Twice, TwoSubsystems, AboveBudget, NoSubsystem, NegativeMargin}
+use Rattle.reader.specs.declared.refusals.Unasked.{Unasked}
+use Rattle.reader.specs.declared.refusals.Unasked.TheVariants.{NoRow, Refused}
 
--- the number of a verdict
-abbrev pub number : Verdict → ℕ
-number Accepted = 0
+-- the number of a refusal
+abbrev pub number : Refusal → ℕ
 number TooLong = 20
 number (NotGrammar line) = 21
 number (KindOrder line) = 22
@@ -21,8 +20,7 @@ number NoSubsystem = 29
 number (NegativeMargin row) = 30
 
 -- the number returned beside it: a line, a row, or 0
-abbrev pub beside : Verdict → ℕ
-beside Accepted = 0
+abbrev pub beside : Refusal → ℕ
 beside TooLong = 0
 beside (NotGrammar line) = line
 beside (KindOrder line) = line
@@ -35,18 +33,12 @@ beside (AboveBudget line) = line
 beside NoSubsystem = 0
 beside (NegativeMargin row) = row
 
--- no refusal
-unfoldable pub is_accepted : Verdict → Bool
-is_accepted v = eqb (number v) 0
+-- where there is no margin: 24 for a row the plan lacks; else the number of the plan's refusal
+abbrev pub unasked_number : Unasked → ℕ
+unasked_number NoRow = 24
+unasked_number (Refused e) = number e
 
--- a row the plan lacks gives 24 and 0; a plan refused for another reason than 30, its refusal
-abbrev pub asked_number : Asked → ℕ
-asked_number (Margin m) = 0
-asked_number NoRow = 24
-asked_number (Refused v) = number v
-
--- the margin, or the number beside
-abbrev pub asked_value : Asked → ℤ
-asked_value (Margin m) = m
-asked_value NoRow = pos 0
-asked_value (Refused v) = pos (beside v)
+-- the number beside it: 0 for a row the plan lacks
+abbrev pub unasked_beside : Unasked → ℕ
+unasked_beside NoRow = 0
+unasked_beside (Refused e) = beside e

@@ -5,15 +5,13 @@ use Rattle.plan.specs.declared.Plan.{Plan}
 use Rattle.plan.specs.Limits.{most_subsystems, most_tasks, most_resources, undeclared}
 use Rattle.plan.specs.Plan.{place}
 use Rattle.plan.specs.Admission.{first_negative}
-use Rattle.reader.specs.declared.Verdict.{Verdict}
-use Rattle.reader.specs.declared.Verdict.TheVariants.{Accepted, TooLong, NotGrammar, KindOrder, TooManyRows, NoSuchRow, OutOfRange, Twice, TwoSubsystems, AboveBudget, NoSubsystem, NegativeMargin}
+use Rattle.reader.specs.declared.refusals.Refusal.{Refusal}
+use Rattle.reader.specs.declared.refusals.Refusal.TheVariants.{TooLong, NotGrammar, KindOrder, TooManyRows, NoSuchRow, OutOfRange, Twice, TwoSubsystems, AboveBudget, NoSubsystem, NegativeMargin}
 use Rattle.reader.specs.declared.Line.{Line}
 use Rattle.reader.specs.declared.Line.TheVariants.{Subsystem, Task, Resource, Uses}
-use Rattle.reader.specs.declared.Reading.{Reading}
-use Rattle.reader.specs.Numbers.{is_accepted}
 use Rattle.reader.specs.Line.{line_of, kind_of}
 use Rattle.reader.specs.Conditions.{not_grammar, kind_order, too_many_rows, no_such_row, out_of_range, twice, two_subsystems, above_budget}
-use Rattle.std.specs.Prelude.{Option, Some, None}
+use Rattle.std.specs.Prelude.{Option, Some, None, Result, Ok, Err}
 
 -- a plan text is at most 16,384 bytes
 abbrev pub most_bytes : ℕ
@@ -33,13 +31,13 @@ empty_plan =
       lengths = replicate 512 0;
     }
 
--- the verdict of the first test that is true
-unfoldable pub first_of : List (Bool × Verdict) → Verdict
-first_of [] = Accepted
-first_of (t ∷ ts) = elim t.0 [ true ↦ t.1 | false ↦ first_of ts ]
+-- the refusal of the first test that is true
+unfoldable pub first_of : List (Bool × Refusal) → Result Unit Refusal
+first_of [] = Ok tt
+first_of (t ∷ ts) = elim t.0 [ true ↦ Err t.1 | false ↦ first_of ts ]
 
 -- what is said of line n, after a line of the kind last, in the order of the table
-unfoldable pub judged : Plan → ℕ → ℕ → Option Line → Verdict
+unfoldable pub judged : Plan → ℕ → ℕ → Option Line → Result Unit Refusal
 judged p last n l =
     first_of
     ((not_grammar l, NotGrammar n)
@@ -121,33 +119,31 @@ with_line p (Some (Resource kind)) = with_resource p kind
 with_line p (Some (Uses task resource length)) = with_use p task resource length
 with_line p None = p
 
--- a refusal comes with the plan of no line
-unfoldable pub refused : Verdict → Reading
-refused v = record { verdict = v; plan = empty_plan }
-
 -- reading on at line n, after a line of the kind last: up to the first bad line, or the plan of all lines
-unfoldable pub read_from : List (List ℕ) → ℕ → ℕ → Plan → Reading
-read_from [] n last p = record { verdict = Accepted; plan = p }
+unfoldable pub read_from : List (List ℕ) → ℕ → ℕ → Plan → Result Plan Refusal
+read_from [] n last p = Ok p
 read_from (l ∷ ls) n last p =
-    let v = judged p last n (line_of l) in
-    elim (is_accepted v) [ true ↦ read_from ls (n + 1) (kind_of (line_of l)) (with_line p (line_of l)) | false ↦ refused v ]
-
--- 29: no S line; then 30: a margin is negative, with the first such row
-unfoldable pub judged_whole : Plan → Reading
-judged_whole p =
-    elim (eqb p.subsystems 0) [
-      | true ↦ refused NoSubsystem
-      | false ↦ elim (ltb (first_negative p) p.subsystems) [
-        | true ↦ record { verdict = NegativeMargin (first_negative p); plan = p }
-        | false ↦ record { verdict = Accepted; plan = p }
-      ]
+    elim (judged p last n (line_of l)) [
+      | Ok u ↦ read_from ls (n + 1) (kind_of (line_of l)) (with_line p (line_of l))
+      | Err e ↦ Err e
     ]
+
+-- 29: no S line
+unfoldable pub judged_rowless : Plan → Result Plan Refusal
+judged_rowless p = elim (eqb p.subsystems 0) [ true ↦ Err NoSubsystem | false ↦ Ok p ]
+
+-- what reading a plan text answers but for 30: the plan as it is listed, whatever its margins
+unfoldable pub listed_reading : List ℕ → Result Plan Refusal
+listed_reading text =
+    elim (ltb most_bytes (length text)) [
+      | true ↦ Err TooLong
+      | false ↦ elim (read_from (lines text) 1 0 empty_plan) [ Ok p ↦ judged_rowless p | Err e ↦ Err e ]
+    ]
+
+-- 30: a margin is negative, with the first such row
+unfoldable pub judged_margins : Plan → Result Plan Refusal
+judged_margins p = elim (ltb (first_negative p) p.subsystems) [ true ↦ Err (NegativeMargin (first_negative p)) | false ↦ Ok p ]
 
 -- what reading a plan text answers
-unfoldable pub reading : List ℕ → Reading
-reading text =
-    elim (ltb most_bytes (length text)) [
-      | true ↦ refused TooLong
-      | false ↦ let r = read_from (lines text) 1 0 empty_plan in
-          elim (is_accepted r.verdict) [ true ↦ judged_whole r.plan | false ↦ r ]
-    ]
+unfoldable pub reading : List ℕ → Result Plan Refusal
+reading text = elim (listed_reading text) [ Ok p ↦ judged_margins p | Err e ↦ Err e ]

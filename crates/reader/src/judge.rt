@@ -7,43 +7,43 @@ ghost use Rattle.reader.specs.Reading.{judged};
 ghost use Rattle.reader.specs.Judged.{judged_rows};
 
 use crate::grammar::kind_of;
-use crate::{Line, Verdict};
+use crate::{Line, Refusal};
 use plan::Plan;
 
 // S
-fn judge_subsystem(p: &Plan, n: u32, period: u32, budget: u32) -> Verdict
+fn judge_subsystem(p: &Plan, n: u32, period: u32, budget: u32) -> Result<(), Refusal>
     ensures { result ≡ judged_rows p.now n (Some (Line.Subsystem period budget)) }
 {
     if 8 <= p.subsystems {
-        return Verdict::TooManyRows(n);
+        return Err(Refusal::TooManyRows(n));
     }
     if period < 1 || 10000 < period || budget < 1 || period < budget {
-        return Verdict::OutOfRange(n);
+        return Err(Refusal::OutOfRange(n));
     }
-    Verdict::Accepted
+    Ok(())
 }
 
 // T
-fn judge_task(p: &Plan, n: u32, subsystem: u32) -> Verdict
+fn judge_task(p: &Plan, n: u32, subsystem: u32) -> Result<(), Refusal>
     ensures { result ≡ judged_rows p.now n (Some (Line.Task subsystem)) }
 {
     if 32 <= p.tasks {
-        return Verdict::TooManyRows(n);
+        return Err(Refusal::TooManyRows(n));
     }
     if (p.subsystems as u32) <= subsystem {
-        return Verdict::NoSuchRow(n);
+        return Err(Refusal::NoSuchRow(n));
     }
-    Verdict::Accepted
+    Ok(())
 }
 
 // R
-fn judge_resource(p: &Plan, n: u32, kind: u8) -> Verdict
+fn judge_resource(p: &Plan, n: u32, kind: u8) -> Result<(), Refusal>
     ensures { result ≡ judged_rows p.now n (Some (Line.Resource kind)) }
 {
     if 16 <= p.resources {
-        return Verdict::TooManyRows(n);
+        return Err(Refusal::TooManyRows(n));
     }
-    Verdict::Accepted
+    Ok(())
 }
 
 // 25: the length of a global resource is 1 to 10000, of a local one 0.
@@ -73,31 +73,31 @@ fn above_budget(p: &Plan, t: u8, length: u32) -> bool
 }
 
 // U
-fn judge_use(p: &Plan, n: u32, task: u32, resource: u32, length: u32) -> Verdict
+fn judge_use(p: &Plan, n: u32, task: u32, resource: u32, length: u32) -> Result<(), Refusal>
     ensures { result ≡ judged_rows p.now n (Some (Line.Uses task resource length)) }
 {
     if (p.tasks as u32) <= task || (p.resources as u32) <= resource {
-        return Verdict::NoSuchRow(n);
+        return Err(Refusal::NoSuchRow(n));
     }
     let t = task as u8;
     let r = resource as u8;
     if out_of_range(p, r, length) {
-        return Verdict::OutOfRange(n);
+        return Err(Refusal::OutOfRange(n));
     }
     if p.declares(t, r) {
-        return Verdict::Twice(n);
+        return Err(Refusal::Twice(n));
     }
     if two_subsystems(p, t, r) {
-        return Verdict::TwoSubsystems(n);
+        return Err(Refusal::TwoSubsystems(n));
     }
     if above_budget(p, t, length) {
-        return Verdict::AboveBudget(n);
+        return Err(Refusal::AboveBudget(n));
     }
-    Verdict::Accepted
+    Ok(())
 }
 
 // 23 to 28, by the kind of the line.
-fn judge_rows(p: &Plan, n: u32, l: Line) -> Verdict
+fn judge_rows(p: &Plan, n: u32, l: Line) -> Result<(), Refusal>
     ensures { result ≡ judged_rows p.now n (Some l) }
 {
     match l {
@@ -113,11 +113,11 @@ fn judge_rows(p: &Plan, n: u32, l: Line) -> Verdict
 }
 
 // 22, then the others, over the plan read so far. last is the kind of the line before, n the number of this one.
-pub fn judge(p: &Plan, last: u8, n: u32, l: Line) -> Verdict
+pub fn judge(p: &Plan, last: u8, n: u32, l: Line) -> Result<(), Refusal>
     ensures { result ≡ judged p.now last n (Some l) }
 {
     if kind_of(l) < last {
-        return Verdict::KindOrder(n);
+        return Err(Refusal::KindOrder(n));
     }
     judge_rows(p, n, l)
 }

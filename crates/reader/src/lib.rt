@@ -1,42 +1,18 @@
 #![tactic(auto)]
 
 ghost use Rattle.std.specs.Prelude.{◌≡◌};
-ghost use Rattle.reader.specs.Reading.{judged_whole, reading};
+ghost use Rattle.reader.specs.Reading.{listed_reading, reading};
 ghost use Rattle.reader.specs.Margin.{asked};
 
 mod build;
 pub mod grammar;
 mod judge;
 mod lines;
-pub mod numbers;
+mod refusals;
 
-use lines::{read_lines, refuse};
-use numbers::{has_margins, is_accepted};
+use lines::read_lines;
 use plan::Plan;
-
-// What reading a plan text answers. A number is the line, from 1, or the row.
-#[derive(Clone, Copy)]
-pub enum Verdict {
-    Accepted,
-    TooLong,
-    NotGrammar(u32),
-    KindOrder(u32),
-    TooManyRows(u32),
-    NoSuchRow(u32),
-    OutOfRange(u32),
-    Twice(u32),
-    TwoSubsystems(u32),
-    AboveBudget(u32),
-    NoSubsystem,
-    NegativeMargin(u32),
-}
-
-// The plan is all 0 where the verdict is neither Accepted nor NegativeMargin.
-#[derive(Clone, Copy)]
-pub struct Reading {
-    pub verdict: Verdict,
-    pub plan: Plan,
-}
+pub use refusals::{Refusal, Unasked};
 
 // One line of a plan text, with the numbers as written.
 #[derive(Clone, Copy)]
@@ -58,54 +34,42 @@ pub enum Line {
     },
 }
 
-// What asking a plan text for the margin of a row answers.
-#[derive(Clone, Copy)]
-pub enum Asked {
-    Margin(i64),
-    NoRow,
-    Refused(Verdict),
-}
-
-// 29: no S line. Then 30: a margin is negative, and the first such row.
-fn judge_whole(p: &Plan) -> Reading
-    ensures { result ≡ judged_whole p.now }
-{
-    if p.subsystems == 0 {
-        return refuse(Verdict::NoSubsystem);
-    }
-    let row = p.first_negative();
-    let verdict = if row < p.subsystems {
-        Verdict::NegativeMargin(row as u32)
-    } else {
-        Verdict::Accepted
-    };
-    Reading { verdict, plan: *p }
-}
-
-// "Admission": 20 is judged first, then the first bad line, then 29, then 30.
-pub fn read(text: &[u8]) -> Reading
-    ensures { result ≡ reading text.now }
+// "Admission": 20 is judged first, then the first bad line, then 29. So this is the plan as it is listed, whatever its margins.
+#[tactic(auto, using(crate::proofs::Answers::listed_long, crate::proofs::Answers::listed_bad, crate::proofs::Answers::listed_none, crate::proofs::Answers::listed_some))]
+pub fn read_listed(text: &[u8]) -> Result<Plan, Refusal>
+    ensures { result ≡ listed_reading text.now }
 {
     if 16384 < text.len() {
-        return refuse(Verdict::TooLong);
+        return Err(Refusal::TooLong);
     }
-    let r = read_lines(text);
-    if !is_accepted(r.verdict) {
-        return r;
+    let p = read_lines(text)?;
+    if p.subsystems == 0 {
+        return Err(Refusal::NoSubsystem);
     }
-    judge_whole(&r.plan)
+    Ok(p)
+}
+
+// "Admission": what is listed is judged first, then 30: a margin is negative, and the first such row.
+#[tactic(auto, using(crate::proofs::Answers::reading_unlisted, crate::proofs::Answers::reading_negative, crate::proofs::Answers::reading_fine))]
+pub fn read(text: &[u8]) -> Result<Plan, Refusal>
+    ensures { result ≡ reading text.now }
+{
+    let p = read_listed(text)?;
+    let row = p.first_negative();
+    if row < p.subsystems {
+        return Err(Refusal::NegativeMargin(row as u32));
+    }
+    Ok(p)
 }
 
 // "Admission": the margin of a row of a plan that meets no refusal but 30. A row the plan lacks gives 24 and 0, any other plan its refusal.
-pub fn ask(text: &[u8], row: u32) -> Asked
+#[tactic(auto, unfolding(crate::specs::Margin::asked, crate::specs::Margin::asked_by, crate::specs::Margin::asked_of))]
+pub fn ask(text: &[u8], row: u32) -> Result<i64, Unasked>
     ensures { result ≡ asked text.now row }
 {
-    let r = read(text);
-    if !has_margins(r.verdict) {
-        return Asked::Refused(r.verdict);
+    let p = read_listed(text)?;
+    if row < (p.subsystems as u32) {
+        return Ok(p.margin(row as u8));
     }
-    if row < (r.plan.subsystems as u32) {
-        return Asked::Margin(r.plan.margin(row as u8));
-    }
-    Asked::NoRow
+    Err(Unasked::NoRow)
 }

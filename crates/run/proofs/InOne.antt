@@ -1,10 +1,14 @@
 -- The lines of a report, as one text, are the admission report.
-use Rattle.std.proofs.Common.{◌≡◌, sym, ◌∙◌, Bool, true, false, List, [], ◌∷◌, ◌++◌, append_assoc, append-nil, ℕ, zero, suc, ◌+◌, add-one, arith}
+use mathlib.Core.Path.{◌≡◌, sym, ◌∙◌}
+use mathlib.Core.List.{List, [], ◌∷◌, ◌++◌, append_assoc, append-nil}
+use Prim.Native.Nat.{ℕ, zero, suc, ◌+◌}
+use native.Mathlib.Numerals.{add-one}
+use native.Mathlib.Omega.{arith}
 use Rattle.plan.specs.declared.Plan.{Plan}
-use Rattle.reader.specs.declared.Reading.{Reading}
+use Rattle.reader.specs.declared.refusals.Refusal.{Refusal}
 use Rattle.reader.specs.Numbers.{number, beside}
-use Rattle.reader.specs.Reading.{reading}
-use Rattle.reader.specs.Margin.{has_margins}
+use Rattle.reader.specs.Reading.{listed_reading}
+use Rattle.std.specs.Prelude.{Result, Ok, Err}
 use Rattle.line.specs.Printed.{printed_refusal}
 use Rattle.line.specs.Report.{report_line, report_lines, report}
 use Rattle.run.specs.AsFar.{in_one}
@@ -29,10 +33,10 @@ module _ (p : Plan) where
 
 pub report_joined : (text : List ℕ) → in_one (reported_lines text) ≡ report text
 unfolding reported_lines report_of report in_one
-report_joined text = go (reading text) (has_margins (reading text))
+report_joined text = go (listed_reading text)
   where
-    go : (r : Reading) (b : Bool)
-        → in_one (elim b [ true ↦ report_from r.plan r.plan.subsystems 0 | false ↦ printed_refusal (number r.verdict) (beside r.verdict) ∷ [] ])
-        ≡ elim b [ true ↦ report_lines r.plan r.plan.subsystems | false ↦ printed_refusal (number r.verdict) (beside r.verdict) ]
-    go r true = all_joined r.plan r.plan.subsystems
-    go r false = append-nil (printed_refusal (number r.verdict) (beside r.verdict))
+    go : (r : Result Plan Refusal)
+        → in_one (elim r [ Ok p ↦ report_from p p.subsystems 0 | Err e ↦ printed_refusal (number e) (beside e) ∷ [] ])
+        ≡ elim r [ Ok p ↦ report_lines p p.subsystems | Err e ↦ printed_refusal (number e) (beside e) ]
+    go (Ok p) = all_joined p p.subsystems
+    go (Err e) = append-nil (printed_refusal (number e) (beside e))

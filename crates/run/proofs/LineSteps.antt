@@ -1,14 +1,14 @@
--- Laws of one event line: what an unknown kind answers, what is given back with room and without, and that a legal state stays legal.
-use Rattle.std.proofs.Common.{◌≡◌, ℕ, ◌≤◌, List, length, refl, sym, ap, ◌∙◌}
-use Rattle.std.specs.Prelude.{Option, Some, None, unwrap_or}
+-- Laws of one event line: what its event gives, what is given back with room and without, and that a legal state stays legal.
+use Rattle.std.proofs.Common.{◌≡◌, ℕ, ◌+◌, ◌≤◌, Bool, true, false, List, length, refl, sym, ap, ◌∙◌, arith}
+use Rattle.std.specs.Prelude.{Option, Some, None}
 use Rattle.plan.specs.declared.Plan.{Plan}
 use Rattle.plan.specs.declared.CeiledPlan.{CeiledPlan}
 use Rattle.state.specs.declared.State.{State}
 use Rattle.step.specs.declared.Outcome.{Outcome}
 use Rattle.step.specs.declared.Answer.{Answer}
-use Rattle.step.specs.Refusals.{order_table, first_refusal, refusal}
 use Rattle.step.specs.Events.{answered}
-use Rattle.step.specs.Step.{done, stepped, answer_of}
+use Rattle.step.specs.Step.{stepped, answer_of}
+use Rattle.step.specs.Kinds.{kind_number}
 use Rattle.step.proofs.Stepped.{stepped_legal, stepped_sized}
 use Rattle.line.specs.declared.Event.{Event}
 use Rattle.line.specs.Event.{event_of}
@@ -21,20 +21,15 @@ use Rattle.run.specs.Standing.{Stands}
 use Rattle.run.specs.Lined.{LinePut, lined_by, lined_state_by, lined, lined_state, lined_out}
 use Rattle.run.proofs.AsFarLaws.{has_room_lem, has_none}
 
--- kind 5 is no kind
-pub unknown : (p : Plan) (s : State) (kind : ℕ) → kind ≡ 5 → stepped p s kind 0 0 ≡ answered p s 11
-unfolding stepped refusal first_refusal order_table done
-unknown p s kind e = rw e
-
--- what a line asks: the event that was read, or kind 5
-pub asked : (p : Plan) (s : State) (line : List ℕ) {o : Option Event} (e : Event) → o ≡ event_of line → e ≡ unwrap_or o (record { kind = 5; task = 0; resource = 0 })
-    → stepped p s e.kind e.task e.resource ≡ line_gives p s line
+-- what a line gives, by the event that was read
+pub given_event : (p : Plan) (s : State) (line : List ℕ) (e : Event) → event_of line ≡ Some e → stepped p s (kind_number e.kind) e.task e.resource ≡ line_gives p s line
 unfolding line_gives event_gives
-asked p s line {o} e f g = rw (← f) (go o g)
-  where
-    go : (o : Option Event) → e ≡ unwrap_or o (record { kind = 5; task = 0; resource = 0 }) → stepped p s e.kind e.task e.resource ≡ event_gives p s o
-    go None q = rw q (unknown p s 5 refl)
-    go (Some a) q = rw q
+given_event p s line e f = rw f
+
+-- a line that is no event is answered 11
+pub given_none : (p : Plan) (s : State) (line : List ℕ) → event_of line ≡ None → answered p s 11 ≡ line_gives p s line
+unfolding line_gives event_gives
+given_none p s line f = rw f
 
 -- a legal state stays legal
 module _ (c : CeiledPlan) (s : State) (S : Stands c s) where
@@ -46,9 +41,9 @@ module _ (c : CeiledPlan) (s : State) (S : Stands c s) where
         lent = record {
           accepted = L.accepted;
           ceilings = L.ceilings;
-          legal = stepped_legal c.plan s L.accepted S.sized L.legal e.kind e.task e.resource;
+          legal = stepped_legal c.plan s L.accepted S.sized L.legal (kind_number e.kind) e.task e.resource;
         };
-        sized = stepped_sized c.plan s L.accepted S.sized L.legal e.kind e.task e.resource;
+        sized = stepped_sized c.plan s L.accepted S.sized L.legal (kind_number e.kind) e.task e.resource;
       }
   event_stands None = S
 

@@ -1,15 +1,20 @@
 -- The loop over the lines of an event text: what one turn changes, and where it stops. And that the lines of a run, as one text, are its printed text.
-use Rattle.std.proofs.Common.{◌≡◌, refl, sym, ap, ◌∙◌, Bool, true, false, List, [], ◌∷◌, ◌++◌, append-nil, ℕ, zero, suc, ◌+◌, ◌-◌, ◌≤◌, ◌<◌, arith, length, take, drop, drop_of_length-le, drop-drop}
-use lib.Seq.{take-nil}
+use mathlib.Core.Path.{◌≡◌, refl, sym, ap, ◌∙◌}
+use mathlib.Core.List.{List, [], ◌∷◌, ◌++◌, append-nil}
+use Prim.Native.Nat.{ℕ, zero, suc, ◌+◌, ◌-◌, ◌≤◌, ◌<◌}
+use native.Mathlib.Omega.{arith}
+use lib.ListN.{length, take, drop, drop_of_length-le}
+use lib.Seq.{take-nil, drop-drop}
 use Rattle.text.specs.Lines.{line_feed, until, lines}
 use Rattle.plan.specs.declared.Plan.{Plan}
 use Rattle.plan.specs.declared.CeiledPlan.{CeiledPlan}
-use Rattle.reader.specs.Numbers.{number, beside, is_accepted}
+use Rattle.reader.specs.declared.refusals.Refusal.{Refusal}
+use Rattle.reader.specs.Numbers.{number, beside}
 use Rattle.reader.specs.Reading.{reading}
 use Rattle.state.specs.declared.State.{State}
 use Rattle.state.specs.Fresh.{fresh}
 use Rattle.step.specs.declared.Outcome.{Outcome}
-use Rattle.std.specs.Prelude.{Option, Some, None, Err}
+use Rattle.std.specs.Prelude.{Option, Some, None, Result, Ok, Err}
 use Rattle.line.specs.Printed.{printed, printed_refusal}
 use Rattle.line.specs.Run.{most_lines, line_gives, outcomes, printed_from, printed_run, run}
 use Rattle.run.specs.declared.Lined.{Lined}
@@ -101,17 +106,14 @@ one_printed n (o ∷ os) = ap (λ (t : List ℕ). printed n o ++ t) (one_printed
 
 pub lines_run : (plan events : List ℕ) → in_one (run_lines plan events) ≡ run plan events
 unfolding run_lines run printed_run in_one
-lines_run plan events = go (is_accepted (reading plan).verdict)
+lines_run plan events = go (reading plan)
   where
-    go : (b : Bool)
+    go : (r : Result Plan Refusal)
         → in_one
-        (elim b [
-          | true ↦ printed_lines 1 (outcomes (reading plan).plan (fresh (reading plan).plan) (take most_lines (lines events)))
-          | false ↦ printed_refusal (number (reading plan).verdict) (beside (reading plan).verdict) ∷ []
+        (elim r [
+          | Ok p ↦ printed_lines 1 (outcomes p (fresh p) (take most_lines (lines events)))
+          | Err e ↦ printed_refusal (number e) (beside e) ∷ []
         ])
-        ≡ elim b [
-          | true ↦ printed_run (reading plan).plan events
-          | false ↦ printed_refusal (number (reading plan).verdict) (beside (reading plan).verdict)
-        ]
-    go true = one_printed 1 _
-    go false = append-nil _
+        ≡ elim r [ Ok p ↦ printed_run p events | Err e ↦ printed_refusal (number e) (beside e) ]
+    go (Ok p) = one_printed 1 _
+    go (Err e) = append-nil _

@@ -1,10 +1,17 @@
 -- A buffer of 1,024 bytes has room for any report: at most 8 lines of at most 128 bytes each.
-use Rattle.std.proofs.Common.{◌≡◌, refl, ap, ◌∙◌, Bool, true, false, List, [], ◌∷◌, append-nil, ℕ, zero, suc, ◌+◌, ◌*◌, ◌≤◌, arith, zero-add, length, take, length-append, take_at}
+use mathlib.Core.Path.{◌≡◌, refl, ap, ◌∙◌}
+use mathlib.Core.Bool.{true}
+use mathlib.Core.List.{List, [], ◌∷◌, append-nil}
+use Prim.Native.Nat.{ℕ, zero, suc, ◌+◌, ◌*◌, ◌≤◌}
+use native.Mathlib.Omega.{arith}
+use native.Mathlib.Nat.{zero-add}
+use lib.ListN.{length, take, length-append}
+use lib.Seq.{take_at}
 use Rattle.plan.specs.declared.Plan.{Plan}
-use Rattle.reader.specs.declared.Reading.{Reading}
+use Rattle.reader.specs.declared.refusals.Refusal.{Refusal}
 use Rattle.reader.specs.Numbers.{number, beside}
-use Rattle.reader.specs.Reading.{reading}
-use Rattle.reader.specs.Margin.{has_margins}
+use Rattle.reader.specs.Reading.{listed_reading}
+use Rattle.std.specs.Prelude.{Result, Ok, Err}
 use Rattle.line.specs.Printed.{printed_refusal}
 use Rattle.line.specs.Report.{report}
 use Rattle.run.specs.AsFar.{as_far, as_far_out, fill_of, is_whole, in_one}
@@ -12,7 +19,7 @@ use Rattle.run.specs.Reporting.{report_from, report_of, reported_lines}
 use Rattle.run.proofs.OneText.{Whole, all_whole}
 use Rattle.run.proofs.InOne.{report_joined}
 use Rattle.run.proofs.LongText.{cut_lines}
-use Rattle.run.proofs.SmallPlan.{Small, Modest, modest_reading, number_most}
+use Rattle.run.proofs.SmallPlan.{Small, Modest, modest_listed, number_most}
 use Rattle.run.proofs.ShortLines.{refusal_short, row_short}
 
 rows_length : (p : Plan) → Small p → (n s : ℕ) → s + n ≤ 8 → length (in_one (report_from p n s)) ≤ n * 128
@@ -23,15 +30,14 @@ rows_length p w (suc n) s h =
 
 report_length : (text : List ℕ) → length (in_one (reported_lines text)) ≤ 1024
 unfolding reported_lines report_of in_one
-report_length text = go (reading text) (has_margins (reading text)) (modest_reading text)
+report_length text = go (listed_reading text) (modest_listed text)
   where
-    go : (r : Reading) (b : Bool) → Modest 16385 r
-        → length (in_one (elim b [ true ↦ report_from r.plan r.plan.subsystems 0 | false ↦ printed_refusal (number r.verdict) (beside r.verdict) ∷ [] ])) ≤ 1024
-    go r true w =
-        let f = w.small.counts.subsystems in
-        omega (arith, rows_length r.plan w.small r.plan.subsystems 0 (omega arith))
-    go r false w =
-        rw append-nil (omega (arith, refusal_short (number r.verdict) (beside r.verdict) (number_most r.verdict) w.low))
+    go : (r : Result Plan Refusal) → Modest 16385 r
+        → length (in_one (elim r [ Ok p ↦ report_from p p.subsystems 0 | Err e ↦ printed_refusal (number e) (beside e) ∷ [] ])) ≤ 1024
+    go (Ok p) w =
+        let f = w.counts.subsystems in
+        omega (arith, rows_length p w p.subsystems 0 (omega arith))
+    go (Err e) w = rw append-nil (omega (arith, refusal_short (number e) (beside e) (number_most e) w))
 
 -- any report, from the start of the buffer on
 pub report_whole : (text out : List ℕ) → 1024 ≤ length out → Whole (reported_lines text) out 0

@@ -7,6 +7,7 @@ use Rattle.plan.specs.declared.Plan.{Plan}
 use Rattle.plan.specs.Facts.{Accepted}
 use Rattle.state.specs.declared.State.{State}
 use Rattle.step.proofs.Numbers.{Numbers, of_answered, of_stepped}
+use Rattle.step.specs.Kinds.{kind_number}
 use Rattle.line.specs.declared.Event.{Event}
 use Rattle.std.specs.Prelude.{Option, Some, None}
 use Rattle.line.specs.Event.{event_of}
@@ -26,7 +27,7 @@ use Rattle.run.proofs.RoomyLines.{fits}
 -- the numbers of what a line gives
 of_event : (p : Plan) (s : State) (e : Option Event) → Numbers p (event_gives p s e)
 unfolding event_gives
-of_event p s (Some e) = of_stepped p s e.kind e.task e.resource
+of_event p s (Some e) = of_stepped p s (kind_number e.kind) e.task e.resource
 of_event p s None = of_answered p s 11 (omega arith)
 
 of_line : (p : Plan) (s : State) (line : List ℕ) → Numbers p (line_gives p s line)

@@ -1,13 +1,16 @@
 -- Laws of the rows of a report: the first of those that are left, none left, and what one line says.
-use Rattle.std.proofs.Common.{◌≡◌, sym, ap, ◌∙◌, true, false, List, [], ◌∷◌, ℤ, ℕ, suc, ◌+◌, ◌-◌, ◌≤◌, ◌<◌, arith}
+use mathlib.Core.Path.{◌≡◌, sym}
+use mathlib.Core.List.{List, [], ◌∷◌}
+use lib.IntN.{ℤ}
+use Prim.Native.Nat.{ℕ, suc, ◌+◌, ◌-◌, ◌≤◌, ◌<◌}
+use native.Mathlib.Omega.{arith}
 use Rattle.plan.specs.declared.Plan.{Plan}
 use Rattle.plan.specs.Plan.{period, budget}
 use Rattle.plan.specs.Admission.{blocking, demand, margin}
-use Rattle.reader.specs.declared.Reading.{Reading}
+use Rattle.reader.specs.declared.refusals.Refusal.{Refusal}
 use Rattle.reader.specs.Numbers.{number, beside}
-use Rattle.reader.specs.Reading.{reading}
-use Rattle.reader.specs.Margin.{has_margins}
-use Rattle.std.specs.Prelude.{Option}
+use Rattle.reader.specs.Reading.{listed_reading}
+use Rattle.std.specs.Prelude.{Option, Ok, Err}
 use Rattle.line.specs.Filled.{fill_after, out_after}
 use Rattle.line.specs.Printed.{printed_refusal}
 use Rattle.line.specs.Report.{report_line}
@@ -53,19 +56,17 @@ pub refused_so : (out : List ℕ) (fill n b m k : ℕ) {r : Option ℕ} {new : L
 refused_so out fill n b m k w e f = rw (e, f) at w
 
 -- the lines of a plan that has margins, and of one that has not
-module _ (text : List ℕ) {r : Reading} (e : r ≡ reading text) where
-  own_rows : has_margins r ≡ true → report_of r ≡ report_from r.plan r.plan.subsystems 0
-  unfolding report_of
-  own_rows t = rw (report_of, t)
+module _ (text : List ℕ) where
+  own_rows : {p : Plan} → listed_reading text ≡ Ok p → reported_lines text ≡ report_from p p.subsystems 0
+  unfolding reported_lines report_of
+  own_rows e = rw (reported_lines, report_of, e)
 
-  own_refused : has_margins r ≡ false → report_of r ≡ printed_refusal (number r.verdict) (beside r.verdict) ∷ []
-  unfolding report_of
-  own_refused t = rw (report_of, t)
+  own_refused : {e : Refusal} → listed_reading text ≡ Err e → reported_lines text ≡ printed_refusal (number e) (beside e) ∷ []
+  unfolding reported_lines report_of
+  own_refused q = rw (reported_lines, report_of, q)
 
-  pub lines_rows : has_margins r ≡ true → report_from r.plan r.plan.subsystems 0 ≡ reported_lines text
-  unfolding reported_lines
-  lines_rows t = sym (own_rows t) ∙ ap report_of e
+  pub lines_rows : {p : Plan} → listed_reading text ≡ Ok p → report_from p p.subsystems 0 ≡ reported_lines text
+  lines_rows e = sym (own_rows e)
 
-  pub lines_refused : has_margins r ≡ false → printed_refusal (number r.verdict) (beside r.verdict) ∷ [] ≡ reported_lines text
-  unfolding reported_lines
-  lines_refused t = sym (own_refused t) ∙ ap report_of e
+  pub lines_refused : {e : Refusal} → listed_reading text ≡ Err e → printed_refusal (number e) (beside e) ∷ [] ≡ reported_lines text
+  lines_refused q = sym (own_refused q)

@@ -5,17 +5,16 @@ use Rattle.plan.specs.declared.Plan.{Plan}
 use Rattle.plan.specs.Limits.{undeclared}
 use Rattle.plan.specs.Plan.{place}
 use Rattle.plan.specs.Admission.{first_negative}
-use Rattle.reader.specs.declared.Verdict.{Verdict}
-use Rattle.reader.specs.declared.Verdict.TheVariants.{Accepted, TooLong, NotGrammar, KindOrder, TooManyRows, NoSuchRow, OutOfRange, Twice, TwoSubsystems, AboveBudget, NoSubsystem, NegativeMargin}
+use Rattle.reader.specs.declared.refusals.Refusal.{Refusal}
+use Rattle.reader.specs.declared.refusals.Refusal.TheVariants.{TooLong, NotGrammar, KindOrder, TooManyRows, NoSuchRow, OutOfRange, Twice, TwoSubsystems, AboveBudget, NoSubsystem, NegativeMargin}
 use Rattle.reader.specs.declared.Line.{Line}
 use Rattle.reader.specs.declared.Line.TheVariants.{Subsystem, Task, Resource, Uses}
-use Rattle.std.specs.Prelude.{Option, Some, None}
-use Rattle.reader.specs.declared.Reading.{Reading}
-use Rattle.reader.specs.Numbers.{number, beside, is_accepted}
+use Rattle.std.specs.Prelude.{Option, Some, None, Result, Ok, Err}
+use Rattle.reader.specs.Numbers.{number, beside}
 use Rattle.reader.specs.Line.{line_of, kind_of}
-use Rattle.reader.specs.Reading.{most_bytes, empty_plan, first_of, judged, opened, with_subsystem, with_task, with_resource, with_use, with_line, refused, read_from, judged_whole, reading}
+use Rattle.reader.specs.Reading.{most_bytes, empty_plan, first_of, judged, opened, with_subsystem, with_task, with_resource, with_use, with_line, read_from, judged_rowless, listed_reading, judged_margins, reading}
 use Rattle.reader.specs.Room.{Counts, Room}
-use Rattle.reader.proofs.Room.{accepted_is, room, counts_empty, counts_kept}
+use Rattle.reader.proofs.Room.{room, counts_empty, counts_kept}
 
 -- a list of numbers of 16 bits
 abbrev pub AllSmall : List ℕ → Type 0
@@ -78,50 +77,54 @@ small_line p (Some (Uses task resource length)) r w = record {
 small_line p None r w = w
 
 -- what is said of line n names line n at most
-abbrev Low : ℕ → List (Bool × Verdict) → Type 0
+abbrev Low : ℕ → List (Bool × Refusal) → Type 0
 Low n [] = Unit
 Low n (t ∷ ts) = (beside t.1 ≤ n) × Low n ts
 
-first_low : (n : ℕ) (ts : List (Bool × Verdict)) → Low n ts → beside (first_of ts) ≤ n
+abbrev SaidLow : ℕ → Result Unit Refusal → Type 0
+SaidLow n (Ok u) = Unit
+SaidLow n (Err e) = beside e ≤ n
+
+first_low : (n : ℕ) (ts : List (Bool × Refusal)) → Low n ts → SaidLow n (first_of ts)
 unfolding first_of
-first_low n [] w = omega arith
+first_low n [] w = tt
 first_low n (t ∷ ts) w = go t.0 (first_low n ts w.1)
   where
-    go : (b : Bool) → beside (first_of ts) ≤ n → beside (elim b [ true ↦ t.1 | false ↦ first_of ts ]) ≤ n
+    go : (b : Bool) → SaidLow n (first_of ts) → SaidLow n (elim b [ true ↦ Err t.1 | false ↦ first_of ts ])
     go true h = w.0
     go false h = h
 
-judged_beside : (p : Plan) (last n : ℕ) (l : Option Line) → beside (judged p last n l) ≤ n
+judged_low : (p : Plan) (last n : ℕ) (l : Option Line) → SaidLow n (judged p last n l)
 unfolding judged
-judged_beside p last n l =
+judged_low p last n l =
     let s : n ≤ n = omega arith in
     first_low n _ (s, (s, (s, (s, (s, (s, (s, (s, tt))))))))
 
--- a reading whose plan is small, with a number of at most m beside it
-pub record Modest (m : ℕ) (r : Reading) : Type 0 where
-  pub small : Small r.plan
-  pub low : beside r.verdict ≤ m
+-- a reading with a small plan, or with a number of at most m beside its refusal
+abbrev pub Modest : ℕ → Result Plan Refusal → Type 0
+Modest m (Ok p) = Small p
+Modest m (Err e) = beside e ≤ m
 
-modest_refused : (m : ℕ) (v : Verdict) → beside v ≤ m → Modest m (refused v)
-unfolding refused
-modest_refused m v h = record { small = small_empty; low = h }
+modest_more : (m n : ℕ) (r : Result Plan Refusal) → m ≤ n → Modest m r → Modest n r
+modest_more m n (Ok p) h w = w
+modest_more m n (Err e) h w = omega arith
 
-modest_more : {m n : ℕ} {r : Reading} → m ≤ n → Modest m r → Modest n r
-modest_more h w = record { small = w.small; low = omega arith }
-
-small_next : (p : Plan) (last n : ℕ) (l : Option Line) → Small p → is_accepted (judged p last n l) ≡ true → Small (with_line p l)
-small_next p last n l w t = small_line p l (room p last n l w.counts (accepted_is (judged p last n l) t)) w
+small_next : (p : Plan) (last n : ℕ) (l : Option Line) {u : Unit} → Small p → judged p last n l ≡ Ok u → Small (with_line p l)
+small_next p last n l w t = small_line p l (room p last n l w.counts t) w
 
 modest_read : (ls : List (List ℕ)) (n last : ℕ) (p : Plan) → Small p → Modest (n + length ls) (read_from ls n last p)
 unfolding read_from
-modest_read [] n last p w = record { small = w; low = omega arith }
-modest_read (l ∷ ls) n last p w = go (is_accepted (judged p last n (line_of l))) refl (modest_read ls (n + 1) (kind_of (line_of l)) (with_line p (line_of l)))
+modest_read [] n last p w = w
+modest_read (l ∷ ls) n last p w =
+    go (judged p last n (line_of l)) refl (judged_low p last n (line_of l)) (modest_read ls (n + 1) (kind_of (line_of l)) (with_line p (line_of l)))
   where
-    go : (b : Bool) → is_accepted (judged p last n (line_of l)) ≡ b
+    go : (j : Result Unit Refusal) → judged p last n (line_of l) ≡ j → SaidLow n j
         → (Small (with_line p (line_of l)) → Modest (n + 1 + length ls) (read_from ls (n + 1) (kind_of (line_of l)) (with_line p (line_of l))))
-        → Modest (n + suc (length ls)) (elim b [ true ↦ read_from ls (n + 1) (kind_of (line_of l)) (with_line p (line_of l)) | false ↦ refused (judged p last n (line_of l)) ])
-    go true t ih = modest_more (omega arith) (ih (small_next p last n (line_of l) w t))
-    go false t ih = modest_refused (n + suc (length ls)) _ (omega (arith, judged_beside p last n (line_of l)))
+        → Modest (n + suc (length ls)) (elim j [ Ok u ↦ read_from ls (n + 1) (kind_of (line_of l)) (with_line p (line_of l)) | Err e ↦ Err e ])
+    go (Ok u) t h ih =
+        modest_more (n + 1 + length ls) (n + suc (length ls)) (read_from ls (n + 1) (kind_of (line_of l)) (with_line p (line_of l))) (omega arith)
+        (ih (small_next p last n (line_of l) w t))
+    go (Err e) t h ih = omega arith
 
 -- no more lines than bytes
 onto_few : (b : ℕ) (ls : List (List ℕ)) → length (onto b ls) ≤ suc (length ls)
@@ -138,40 +141,48 @@ lines_few (b ∷ bs) = go (eqb b line_feed) (lines bs) (lines_few bs)
     go true ls h = omega arith
     go false ls h = omega (arith, onto_few b ls)
 
-modest_whole : (p : Plan) → Small p → Modest 16385 (judged_whole p)
-unfolding judged_whole
-modest_whole p w = go (eqb p.subsystems 0) (ltb (first_negative p) p.subsystems) refl
+modest_rowless : (p : Plan) → Small p → Modest 16385 (judged_rowless p)
+unfolding judged_rowless
+modest_rowless p w = go (eqb p.subsystems 0)
   where
-    go : (a b : Bool) → ltb (first_negative p) p.subsystems ≡ b
-        → Modest 16385 (elim a [
-          | true ↦ refused NoSubsystem
-          | false ↦ elim b [ true ↦ record { verdict = NegativeMargin (first_negative p); plan = p } | false ↦ record { verdict = Accepted; plan = p } ]
-        ])
-    go true b t = modest_refused 16385 NoSubsystem (omega arith)
-    go false true t = record { small = w; low = omega (arith, ltb-true (first_negative p) p.subsystems t, w.counts.subsystems) }
-    go false false t = record { small = w; low = omega arith }
+    go : (a : Bool) → Modest 16385 (elim a [ true ↦ Err NoSubsystem | false ↦ Ok p ])
+    go true = omega arith
+    go false = w
+
+modest_margins : (p : Plan) → Small p → Modest 16385 (judged_margins p)
+unfolding judged_margins
+modest_margins p w = go (ltb (first_negative p) p.subsystems) refl
+  where
+    go : (b : Bool) → ltb (first_negative p) p.subsystems ≡ b → Modest 16385 (elim b [ true ↦ Err (NegativeMargin (first_negative p)) | false ↦ Ok p ])
+    go true t = omega (arith, ltb-true (first_negative p) p.subsystems t, w.counts.subsystems)
+    go false t = w
+
+pub modest_listed : (text : List ℕ) → Modest 16385 (listed_reading text)
+unfolding listed_reading
+modest_listed text = go (ltb most_bytes (length text)) refl
+  where
+    ended : (r : Result Plan Refusal) → Modest 16385 r → Modest 16385 (elim r [ Ok p ↦ judged_rowless p | Err e ↦ Err e ])
+    ended (Ok p) w = modest_rowless p w
+    ended (Err e) w = w
+
+    go : (b : Bool) → ltb most_bytes (length text) ≡ b
+        → Modest 16385 (elim b [ true ↦ Err TooLong | false ↦ elim (read_from (lines text) 1 0 empty_plan) [ Ok p ↦ judged_rowless p | Err e ↦ Err e ] ])
+    go true t = omega arith
+    go false t =
+        ended (read_from (lines text) 1 0 empty_plan)
+        (modest_more (1 + length (lines text)) 16385 (read_from (lines text) 1 0 empty_plan) (omega (arith, lines_few text, ltb-false most_bytes (length text) t))
+        (modest_read (lines text) 1 0 empty_plan small_empty))
 
 pub modest_reading : (text : List ℕ) → Modest 16385 (reading text)
 unfolding reading
-modest_reading text = go (ltb most_bytes (length text)) refl
+modest_reading text = go (listed_reading text) (modest_listed text)
   where
-    r : Reading
-    r = read_from (lines text) 1 0 empty_plan
-
-    judge : (b : Bool) → Modest 16385 r → Modest 16385 (elim b [ true ↦ judged_whole r.plan | false ↦ r ])
-    judge true w = modest_whole r.plan w.small
-    judge false w = w
-
-    go : (b : Bool) → ltb most_bytes (length text) ≡ b
-        → Modest 16385 (elim b [ true ↦ refused TooLong | false ↦ elim (is_accepted r.verdict) [ true ↦ judged_whole r.plan | false ↦ r ] ])
-    go true t = modest_refused 16385 TooLong (omega arith)
-    go false t =
-        judge (is_accepted r.verdict)
-        (modest_more (omega (arith, lines_few text, ltb-false most_bytes (length text) t)) (modest_read (lines text) 1 0 empty_plan small_empty))
+    go : (r : Result Plan Refusal) → Modest 16385 r → Modest 16385 (elim r [ Ok p ↦ judged_margins p | Err e ↦ Err e ])
+    go (Ok p) w = modest_margins p w
+    go (Err e) w = w
 
 -- numbers of refusals
-pub number_most : (v : Verdict) → number v ≤ 30
-number_most Accepted = omega arith
+pub number_most : (e : Refusal) → number e ≤ 30
 number_most TooLong = omega arith
 number_most (NotGrammar n) = omega arith
 number_most (KindOrder n) = omega arith

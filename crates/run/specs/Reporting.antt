@@ -1,10 +1,9 @@
 -- The admission report of a plan text, line by line.
-use Rattle.std.specs.Prelude.{true, false, List, [], ◌∷◌, ℕ, zero, suc, ◌+◌}
+use Rattle.std.specs.Prelude.{List, [], ◌∷◌, ℕ, zero, suc, ◌+◌, Result, Ok, Err}
 use Rattle.plan.specs.declared.Plan.{Plan}
-use Rattle.reader.specs.declared.Reading.{Reading}
+use Rattle.reader.specs.declared.refusals.Refusal.{Refusal}
 use Rattle.reader.specs.Numbers.{number, beside}
-use Rattle.reader.specs.Reading.{reading}
-use Rattle.reader.specs.Margin.{has_margins}
+use Rattle.reader.specs.Reading.{listed_reading}
 use Rattle.line.specs.Printed.{printed_refusal}
 use Rattle.line.specs.Report.{report_line}
 
@@ -14,13 +13,9 @@ report_from p zero s = []
 report_from p (suc n) s = report_line p s ∷ report_from p n (s + 1)
 
 -- a line a row; a plan that has no margins has its refusal
-unfoldable pub report_of : Reading → List (List ℕ)
-report_of r =
-    elim (has_margins r) [
-      | true ↦ report_from r.plan r.plan.subsystems 0
-      | false ↦ printed_refusal (number r.verdict) (beside r.verdict) ∷ []
-    ]
+unfoldable pub report_of : Result Plan Refusal → List (List ℕ)
+report_of r = elim r [ Ok p ↦ report_from p p.subsystems 0 | Err e ↦ printed_refusal (number e) (beside e) ∷ [] ]
 
 -- of a plan text
 unfoldable pub reported_lines : List ℕ → List (List ℕ)
-reported_lines text = report_of (reading text)
+reported_lines text = report_of (listed_reading text)

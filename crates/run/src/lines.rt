@@ -1,27 +1,25 @@
 // "The run program", one line: an event line is read, its event is stepped, and the answer is printed behind the fill of a buffer.
 ghost use Rattle.std.specs.Prelude.{◌≡◌, ◌+◌, ◌≤◌, IfSome, length};
-ghost use Rattle.plan.specs.declared.Plan.{Plan};
-ghost use Rattle.state.specs.declared.State.{State};
 ghost use Rattle.choice.specs.Lent.{Lent};
-ghost use Rattle.step.specs.Step.{stepped};
+ghost use Rattle.step.specs.Step.{answer_of};
 ghost use Rattle.line.specs.Run.{line_gives};
 ghost use Rattle.run.specs.Lined.{LinePut, lined, lined_state, lined_out};
 
 use crate::Lined;
-use line::{Event, event_of, print};
+use line::{event_of, print};
 use plan::CeiledPlan;
 use state::State;
-use step::event::stepped;
+use step::Answer;
+use step::event::{stepped_as, unknown};
 
-// A line is read. Kind 5 is no kind, so that it answers 11, as a line that is no event does.
-fn ask_of(line: &[u8]) -> Event
-    ensures { (p : Plan) (s : State) → stepped p s result.kind result.task result.resource ≡ line_gives p s line.now }
+// A line is read, and its event is stepped. A line that is no event is answered 11.
+fn line_answer(c: &CeiledPlan, s: &mut State, line: &[u8]) -> Answer
+    ensures { Lent c.now s.old → (result ≡ answer_of (line_gives c.now.plan s.old line.now)) × (s.new ≡ (line_gives c.now.plan s.old line.now).state) }
 {
-    event_of(line).unwrap_or(Event {
-        kind: 5,
-        task: 0,
-        resource: 0,
-    })
+    match event_of(line) {
+        Some(e) => stepped_as(c, s, e.kind, e.task, e.resource),
+        None => unknown(c, s),
+    }
 }
 
 // The n-th event line on a legal state, which it alters where it lies, so that no state is copied. The buffer has room for any printed line, 128 bytes
@@ -38,8 +36,7 @@ pub fn line_in(
     ensures within { result ≤ length out.old }
     ensures put { Lent c.now s.old → LinePut c.now.plan s.old number line.now out.old fill s.new result out.new }
 {
-    let e = ask_of(line);
-    let a = stepped(c, s, e.kind, e.task, e.resource);
+    let a = line_answer(c, s, line);
     print(out, fill, number, a).unwrap_or(fill)
 }
 
@@ -57,8 +54,7 @@ pub fn line_step(
         × (s.new ≡ lined_state c.now.plan s.old number line.now out.old fill) × (out.new ≡ lined_out c.now.plan s.old number line.now out.old fill) }
 {
     let mut next = *s;
-    let e = ask_of(line);
-    let a = stepped(c, &mut next, e.kind, e.task, e.resource);
+    let a = line_answer(c, &mut next, line);
     let end = print(out, fill, number, a)?;
     *s = next;
     Some(Lined {

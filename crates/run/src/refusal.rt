@@ -6,12 +6,11 @@ ghost use Rattle.run.specs.AsFar.{as_far, as_far_out};
 
 use crate::Full;
 use line::print_refusal;
-use reader::Verdict;
-use reader::numbers::{beside, number};
+use reader::Refusal;
 
 // A refused plan prints its refusal alone.
-pub fn put_refusal(v: Verdict, out: &mut [u8], fill: usize) -> Result<usize, Full>
-    ensures { (result ≡ as_far (printed_refusal (number v) (beside v) ∷ []) out.old fill) × (out.new ≡ as_far_out (printed_refusal (number v) (beside v) ∷ []) out.old fill) }
+pub fn put_refusal(e: Refusal, out: &mut [u8], fill: usize) -> Result<usize, Full>
+    ensures { (result ≡ as_far (printed_refusal (number e) (beside e) ∷ []) out.old fill) × (out.new ≡ as_far_out (printed_refusal (number e) (beside e) ∷ []) out.old fill) }
 {
-    print_refusal(out, fill, number(v), beside(v)).ok_or(Full { fill })
+    print_refusal(out, fill, e.number(), e.beside()).ok_or(Full { fill })
 }

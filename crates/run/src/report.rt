@@ -8,7 +8,7 @@ ghost use Rattle.run.specs.Reporting.{report_from, reported_lines};
 use crate::Full;
 use crate::refusal::put_refusal;
 use plan::Plan;
-use reader::numbers::has_margins;
+use reader::read_listed;
 
 // The line of a row.
 fn report_row(p: &Plan, s: u8, out: &mut [u8], fill: usize) -> Option<usize>
@@ -41,9 +41,8 @@ fn report_rows(p: &Plan, out: &mut [u8], fill: usize) -> Result<usize, Full>
 pub fn report(text: &[u8], out: &mut [u8], fill: usize) -> Result<usize, Full>
     ensures { (result ≡ as_far (reported_lines text.now) out.old fill) × (out.new ≡ as_far_out (reported_lines text.now) out.old fill) }
 {
-    let r = reader::read(text);
-    if !has_margins(r.verdict) {
-        return put_refusal(r.verdict, out, fill);
+    match read_listed(text) {
+        Ok(p) => report_rows(&p, out, fill),
+        Err(e) => put_refusal(e, out, fill),
     }
-    report_rows(&r.plan, out, fill)
 }

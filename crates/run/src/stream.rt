@@ -126,6 +126,7 @@ impl Stream {
         let mut taken = at;
         let mut filled = fill;
         let mut end = find(piece, at, b'\n');
+        // a while, since where a line begins is known only once the one before it was found to end
         while end < piece.len() && is_roomy(self.number, out.len(), filled) {
             let number = self.number;
             filled = line_in(
@@ -153,6 +154,7 @@ impl Stream {
             × (Stands c.now self.old.state → taken_of self.new result out.new ≡ piece_taken c.now.plan (at_of self.old) piece.now out.old fill) }
     {
         let mut at = Fed { taken: 0, fill };
+        // a while, since each turn says how much of the piece it took
         while at.taken < piece.len() {
             at = self.feed_roomy(c, piece, at.taken, out, at.fill);
             if at.taken == piece.len() {

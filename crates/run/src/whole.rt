@@ -11,7 +11,6 @@ use crate::Full;
 use crate::lines::line_step;
 use crate::refusal::put_refusal;
 use plan::CeiledPlan;
-use reader::numbers::is_accepted;
 use reader::read;
 use state::State;
 use text::find;
@@ -58,10 +57,11 @@ pub fn run(plan: &[u8], events: &[u8], out: &mut [u8], fill: usize) -> Result<us
     ensures { (result ≡ as_far (run_lines plan.now events.now) out.old fill)
         × (out.new ≡ as_far_out (run_lines plan.now events.now) out.old fill) }
 {
-    let r = read(plan);
-    if !is_accepted(r.verdict) {
-        return put_refusal(r.verdict, out, fill);
+    match read(plan) {
+        Ok(p) => {
+            let c = p.with_ceilings();
+            run_lines(&c, State::fresh(&c.plan), events, out, fill)
+        }
+        Err(e) => put_refusal(e, out, fill),
     }
-    let c = r.plan.with_ceilings();
-    run_lines(&c, State::fresh(&c.plan), events, out, fill)
 }

@@ -1,12 +1,12 @@
 -- The first state of a run on two files is legal: the plan that was read is accepted, and the run begins in its fresh state.
-use Rattle.std.proofs.Common.{◌≡◌, refl, ap, ◌∙◌, sym, true, List, ℕ}
+use Rattle.std.proofs.Common.{◌≡◌, refl, ap, sym, List, ℕ, Result, Ok, Err}
+use Rattle.std.specs.Prelude.{IfOk}
 use Rattle.plan.specs.declared.Plan.{Plan}
 use Rattle.plan.specs.declared.CeiledPlan.{CeiledPlan}
 use Rattle.plan.specs.Ceiled.{ceiled}
 use Rattle.plan.specs.Facts.{Accepted}
 use Rattle.plan.proofs.Facts.{accepted_facts}
-use Rattle.reader.specs.declared.Reading.{Reading}
-use Rattle.reader.specs.Numbers.{is_accepted}
+use Rattle.reader.specs.declared.refusals.Refusal.{Refusal}
 use Rattle.reader.specs.Reading.{reading}
 use Rattle.exactly.proofs.Sound.{read_accepted}
 use Rattle.state.proofs.Fresh.{fresh_sized}
@@ -17,8 +17,9 @@ use Rattle.run.specs.Stream.{At, start}
 use Rattle.run.specs.Fed.{at_of}
 
 -- a plan that was read
-pub read_plan : (text : List ℕ) {r : Reading} → r ≡ reading text → is_accepted r.verdict ≡ true → Accepted r.plan
-read_plan text e a = rw e (accepted_facts (reading text).plan (read_accepted text (sym (ap (λ (r : Reading). is_accepted r.verdict) e) ∙ a)))
+pub read_plan : (text : List ℕ) (r : Result Plan Refusal) → r ≡ reading text → IfOk r Accepted
+read_plan text (Ok p) e = accepted_facts p (read_accepted text (sym e))
+read_plan text (Err v) e = tt
 
 -- with its ceilings, and the state that a run begins in
 pub first_state : (p : Plan) → Accepted p → {c : CeiledPlan} → c ≡ ceiled p → (s : Stream) → at_of s ≡ start c.plan → Stands c s.state

@@ -1,16 +1,14 @@
 // A run on two files. Both are opened and read from before anything is printed.
-ghost use Rattle.std.specs.Prelude.{◌≡◌, true, ◌≤◌, IfOk, IfErr, length};
+ghost use Rattle.std.specs.Prelude.{◌≡◌, ◌≤◌, IfOk, IfErr, length};
 ghost use Rattle.std.specs.Counts.{IsPrefixLen};
 ghost use Rattle.plan.specs.Facts.{Accepted};
-ghost use Rattle.reader.specs.Numbers.{is_accepted};
 ghost use Rattle.run.specs.Standing.{Stands};
 
 use crate::pieces::{answer_end, answer_piece};
 use files::{open_file, read_file, read_piece, write_out};
 use line::print_refusal;
-use plan::CeiledPlan;
-use reader::numbers::{beside, is_accepted, number};
-use reader::{Reading, Verdict};
+use plan::{CeiledPlan, Plan};
+use reader::Refusal;
 use run::stream::Stream;
 use std::fs::File;
 
@@ -81,27 +79,30 @@ fn run_pieces(
 }
 
 // The line of a refused plan.
-fn print_refused(rt: &HostRuntime, v: Verdict) {
+fn print_refused(rt: &HostRuntime, e: Refusal) {
     let mut out = [0u8; 128];
-    let Some(end) = print_refusal(&mut out, 0, number(v), beside(v)) else {
+    let Some(end) = print_refusal(&mut out, 0, e.number(), e.beside()) else {
         return;
     };
     let _ = write_out(rt, &out[..end]);
 }
 
-// A plan that was read, and the event file. Its first piece is read before anything is printed, also for a refused plan.
-fn run_events(rt: &HostRuntime, r: Reading, file: &mut File, path: &[u8])
-    requires { is_accepted r.verdict ≡ true → Accepted r.plan }
+// What the plan file was read to, and the event file. Its first piece is read before anything is printed, also for a refused plan.
+fn run_events(rt: &HostRuntime, r: Result<Plan, Refusal>, file: &mut File, path: &[u8])
+    requires { IfOk r Accepted }
 {
     let mut piece = [0u8; 65536];
     let Ok(count) = read_piece(rt, file, path, &mut piece) else {
         return;
     };
-    if !is_accepted(r.verdict) {
-        print_refused(rt, r.verdict);
-        return;
-    }
-    let c = r.plan.with_ceilings();
+    let p = match r {
+        Ok(p) => p,
+        Err(e) => {
+            print_refused(rt, e);
+            return;
+        }
+    };
+    let c = p.with_ceilings();
     let mut stream = Stream::begin(&c.plan);
     let mut out = [0u8; 65536];
     let first = Going { fill: 0, count };
@@ -110,8 +111,8 @@ fn run_events(rt: &HostRuntime, r: Reading, file: &mut File, path: &[u8])
     }
 }
 
-fn open_events(rt: &HostRuntime, r: Reading, path: &[u8])
-    requires { is_accepted r.verdict ≡ true → Accepted r.plan }
+fn open_events(rt: &HostRuntime, r: Result<Plan, Refusal>, path: &[u8])
+    requires { IfOk r Accepted }
 {
     let Some(mut file) = open_file(rt, path) else {
         return;

@@ -25,6 +25,7 @@ pub fn answer_piece(
 {
     let mut filled = fill;
     let mut at = 0;
+    // a while, since each turn says how much of the piece it took, and nothing where the buffer is full
     while at < piece.len() {
         let f = s.feed(c, &piece[at..], out, filled);
         if f.taken == 0 {

@@ -20,7 +20,6 @@ pub mod Spends
 pub mod Lowers
 pub mod HeldBack
 pub mod TickHeldBack
-pub mod Made
 pub mod Settling
 pub mod WholeTick
 pub mod Asking

@@ -16,14 +16,14 @@ use Rattle.step.specs.Refusals.{release, lock, unlock, end, tick, order_table, u
 use Rattle.step.specs.Events.{answered}
 use Rattle.step.specs.Tick.{ticked}
 use Rattle.step.specs.Step.{done, stepped}
-use Rattle.step.specs.declared.order.Kind.{Kind}
-use Rattle.step.specs.declared.order.Kind.TheVariants.{Release, Lock, Unlock, End}
-use Rattle.step.specs.Lent.{kind_number, narrow}
+use Rattle.step.specs.declared.order.RowKind.{RowKind}
+use Rattle.step.specs.declared.order.RowKind.TheVariants.{Release, Lock, Unlock, End}
+use Rattle.step.specs.Lent.{row_kind_number, narrow}
 use Rattle.step.proofs.Cases.{stepped_tick}
 use Rattle.step.proofs.Answering.{stepped_refused}
 
 -- a kind at rows is one of four
-pub kind_most : (kind : Kind) → kind_number kind ≤ 3
+pub kind_most : (kind : RowKind) → row_kind_number kind ≤ 3
 kind_most Release = omega arith
 kind_most Lock = omega arith
 kind_most Unlock = omega arith

@@ -10,19 +10,19 @@ use Rattle.choice.specs.Choice.{chosen, chosen_task, running}
 use Rattle.step.specs.declared.Outcome.{Outcome}
 use Rattle.step.specs.declared.Answer.{Answer}
 use Rattle.step.specs.declared.order.Asked.{Asked}
-use Rattle.step.specs.declared.order.Kind.{Kind}
-use Rattle.step.specs.declared.order.Kind.TheVariants.{Release, Lock, Unlock, End}
+use Rattle.step.specs.declared.order.RowKind.{RowKind}
+use Rattle.step.specs.declared.order.RowKind.TheVariants.{Release, Lock, Unlock, End}
 use Rattle.step.specs.declared.tick.Settled.{Settled}
 use Rattle.step.specs.Refusals.{release, lock, unlock, end}
 use Rattle.step.specs.Step.{answer_of}
 use Rattle.step.specs.Tick.{shut_spent}
 
 -- the number of a kind of events at rows
-abbrev pub kind_number : Kind → ℕ
-kind_number Release = release
-kind_number Lock = lock
-kind_number Unlock = unlock
-kind_number End = end
+abbrev pub row_kind_number : RowKind → ℕ
+row_kind_number Release = release
+row_kind_number Lock = lock
+row_kind_number Unlock = unlock
+row_kind_number End = end
 
 -- what a refusal is asked of stands so in a state: its task, and the row that runs
 pub record AskedOf (p : Plan) (s : State) (a : Asked) : Type 0 where

@@ -4,3 +4,5 @@ pub mod Tick
 pub mod Step
 pub mod Strict
 pub mod Lent
+pub mod Refused
+pub mod Kinds

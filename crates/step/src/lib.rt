@@ -4,6 +4,7 @@
 ghost use Rattle.std.specs.Prelude.{◌≡◌};
 ghost use Rattle.state.specs.declared.State.{State};
 ghost use Rattle.step.specs.Step.{unread, step, answer_of};
+ghost use Rattle.step.specs.Kinds.{NumberOf};
 
 pub mod event;
 mod order;
@@ -13,6 +14,32 @@ mod tick;
 use event::stepped;
 use plan::Plan;
 use state::State;
+
+// The kinds of events.
+#[derive(Clone, Copy, PartialEq, Eq)]
+pub enum Kind {
+    Release,
+    Lock,
+    Unlock,
+    End,
+    Tick,
+}
+
+impl Kind {
+    // The kind of a number, 0 to 4; no other number is one of a kind.
+    pub fn of(n: u32) -> Option<Kind>
+        ensures { NumberOf n result }
+    {
+        match n {
+            0 => Some(Kind::Release),
+            1 => Some(Kind::Lock),
+            2 => Some(Kind::Unlock),
+            3 => Some(Kind::End),
+            4 => Some(Kind::Tick),
+            _ => None,
+        }
+    }
+}
 
 // What an event gives. answer is the number of the answer; subsystem and task are rows, 255 for none; ended has bit i set where task i was ended.
 #[derive(Clone, Copy)]

@@ -14,7 +14,7 @@ pub fn length_fits_budget(p: &Plan, s: &State, k: u8, r: u8) -> bool
     p.length(k, r) <= s.left_of(p.owner(k)).0
 }
 
-// The columns of a state have the lengths of their arrays: a proof knows it of a state by value. There is nothing to do.
+// The columns of a state have the lengths of their arrays: a proof knows it of a state by value, not of one that is lent. There is nothing to do.
 pub fn sized(s: State)
     ensures { Sized s }
 {

@@ -1,4 +1,4 @@
-use Rattle.std.proofs.Common.{◌≡◌, sym, ◌∙◌, length, arith}
+use Rattle.std.proofs.Common.{◌≡◌, sym, length, arith}
 use Rattle.image.specs.Block.{block_bytes}
 use Rattle.host.proofs.ReadLaws.{filled, wrong_length, refused, accepted}
 use Rattle.host.proofs.skrzypolot_read.Goals as goal
@@ -6,13 +6,10 @@ use Rattle.host.proofs.skrzypolot_read.Goals as goal
 pub returns-then-block-ne1108 : goal.returns-then-block-ne1108
 returns-then-block-ne1108 c = wrong_length _ _ _ c.if-block-ne1108.true
 
-pub returns-then-not-is_accepted : goal.returns-then-not-is_accepted
-returns-then-not-is_accepted c =
-    rw (c.number.ensures, c.beside.ensures)
-    (refused _ _ _ (omega arith) _ c.read-r.ensures (sym c.is_accepted.ensures ∙ c.if-not-is_accepted.true))
+pub returns-in-Err : goal.returns-in-Err
+returns-in-Err c = rw (c.number.ensures, c.beside.ensures) (refused _ _ _ (omega arith) (sym c.in-Err.ensures))
 
 pub returns : goal.returns
 returns c =
     let right : length c.args.block.now ≡ block_bytes = omega arith in
-    rw (c.write_block.ensures.1, filled _ _ right)
-    (accepted _ _ _ (omega arith) _ c.read-r.ensures (sym c.is_accepted.ensures ∙ c.if-not-is_accepted.false))
+    rw (c.write_block.ensures.1, filled _ _ right) (accepted _ _ _ right (sym c.in-Ok.ensures))

@@ -1,15 +1,7 @@
--- 20, then the lines, then 29 and 30.
-use Rattle.std.proofs.Common.{sym, ◌∙◌}
-use Rattle.reader.proofs.Answers.{reading_long, reading_bad, reading_whole}
+-- 30, of a plan that was listed.
+use Rattle.std.proofs.Common.{sym}
+use Rattle.reader.proofs.Answers.{reading_negative}
 use Rattle.reader.proofs.read.Goals as goal
 
-pub returns-then-text-gt16384 : goal.returns-then-text-gt16384
-returns-then-text-gt16384 c = c.refuse.ensures ∙ sym (reading_long _ c.if-text-gt16384.true)
-
-pub returns-then-not-is_accepted : goal.returns-then-not-is_accepted
-returns-then-not-is_accepted c =
-    sym (reading_bad _ c.if-text-gt16384.false c.read_lines-r.ensures (sym c.is_accepted.ensures ∙ c.if-not-is_accepted.true))
-
-pub returns : goal.returns
-returns c =
-    c.judge_whole.ensures ∙ sym (reading_whole _ c.if-text-gt16384.false c.read_lines-r.ensures (sym c.is_accepted.ensures ∙ c.if-not-is_accepted.false))
+pub returns-then-row-p : goal.returns-then-row-p
+returns-then-row-p c = sym (reading_negative _ (sym c.in_ok-p.ensures) c.first_negative-row.ensures c.if-row-p.true)

@@ -18,12 +18,12 @@ returns-then-t-body c =
     c.rows_of.ensures
     ∙ rw (to_end_next c.args.body.now c.find-t.result) (sym (read_rows (sym c.kind_of.ensures ∙ c.in_ok-kind.was) p))
 
-pub returns-then-kind-ne4 : goal.returns-then-kind-ne4
-returns-then-kind-ne4 c =
+pub returns-in_default : goal.returns-in_default
+returns-in_default c =
     let w = found_none tab _ _ c.find-t.ensures (omega (arith, found_le tab _ _ c.find-t.ensures)) in
-    sym (read_alone (sym c.kind_of.ensures ∙ c.in_ok-kind.was) w c.if-t-body.false ∙ alone_other _ c.if-kind-ne4.true)
+    sym (read_alone (sym c.kind_of.ensures ∙ c.in_ok-kind.was) w c.if-t-body.false ∙ alone_other _ c.in_default.not-Tick)
 
-pub returns : goal.returns
-returns c =
+pub returns-in-Tick : goal.returns-in-Tick
+returns-in-Tick c =
     let w = found_none tab _ _ c.find-t.ensures (omega (arith, found_le tab _ _ c.find-t.ensures)) in
-    sym (read_alone (sym c.kind_of.ensures ∙ c.in_ok-kind.was) w c.if-t-body.false ∙ alone_tick _ c.if-kind-ne4.false)
+    sym (read_alone (sym c.kind_of.ensures ∙ c.in_ok-kind.was) w c.if-t-body.false ∙ alone_tick _ c.in-Tick.is)

@@ -8,5 +8,5 @@ use Rattle.run.proofs.refusal.put_refusal.Goals as goal
 pub returns : goal.returns
 returns c =
     let a = c.args in
-    let w = refused_so a.out.now a.fill _ _ (number a.v) (beside a.v) c.print_refusal.ensures (omega (arith, c.number.ensures)) (omega (arith, c.beside.ensures)) in
+    let w = refused_so a.out.now a.fill _ _ (number a.e) (beside a.e) c.print_refusal.ensures (omega (arith, c.number.ensures)) (omega (arith, c.beside.ensures)) in
     rw c.ok_or.ensures.value (leads_one _ (leads_start _ a.out.now a.fill) w.0 w.1)

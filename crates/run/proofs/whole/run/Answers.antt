@@ -1,14 +1,13 @@
 -- `run::whole::run` meets its contract: the reader's plan is accepted, so that its fresh state is legal; or it is refused.
+use Rattle.std.proofs.Common.{sym}
 use Rattle.run.proofs.Starting.{refused_lines, accepted_lines, accepted_lent}
 use Rattle.run.proofs.whole.run.Goals as goal
 
-pub returns-then-not-is_accepted : goal.returns-then-not-is_accepted
-returns-then-not-is_accepted c =
+pub returns-in-Ok : goal.returns-in-Ok
+returns-in-Ok c =
     let a = c.args in
-    rw (refused_lines a.plan.now a.events.now c.read-r.ensures c.is_accepted.ensures c.if-not-is_accepted.true) at c.put_refusal.ensures
+    let q = sym c.in-Ok.ensures in
+    rw (accepted_lines a.plan.now a.events.now q c.with_ceilings-c.ensures c.fresh.ensures) at (c.run_lines.ensures (accepted_lent a.plan.now a.events.now q c.with_ceilings-c.ensures c.fresh.ensures))
 
-pub returns : goal.returns
-returns c =
-    let a = c.args in
-    let l = accepted_lent a.plan.now a.events.now c.read-r.ensures c.is_accepted.ensures c.if-not-is_accepted.false c.with_ceilings-c.ensures c.fresh.ensures in
-    rw (accepted_lines a.plan.now a.events.now c.read-r.ensures c.is_accepted.ensures c.if-not-is_accepted.false c.with_ceilings-c.ensures c.fresh.ensures) at (c.run_lines.ensures l)
+pub returns-in-Err : goal.returns-in-Err
+returns-in-Err c = rw (refused_lines c.args.plan.now c.args.events.now (sym c.in-Err.ensures)) at c.put_refusal.ensures
