@@ -8,11 +8,10 @@ use lib.ListN.{get_or}
 use borrow.Author.Tests.{leb-true, eq-eqb, ne_eqb}
 use Rattle.below.specs.Below.{any}
 use Rattle.below.specs.Least.{least}
-use Rattle.below.proofs.Listed.{get_or_listed}
 use Rattle.below.proofs.Search.{any_of, any_agree, first_agree, first_most}
 use Rattle.plan.specs.declared.Plan.{Plan}
 use Rattle.plan.specs.declared.CeiledPlan.{CeiledPlan}
-use Rattle.plan.specs.Limits.{most_resources, no_row}
+use Rattle.plan.specs.Limits.{no_row}
 use Rattle.plan.specs.Plan.{owner, is_global, declares, level}
 use Rattle.plan.specs.Ceiling.{local_ceiling, global_ceiling, ceiling}
 use Rattle.plan.specs.Facts.{Accepted}
@@ -64,7 +63,7 @@ module _ (p : Plan) (s : State) (accepted : Accepted p) (legal : Legal p s) wher
 
 module _ (c : CeiledPlan) (s : State) (lent : Lent c s) where
   pub ceiling_read : (r : ℕ) → r < c.plan.resources → get_or c.ceilings r 0 ≡ ceiling c.plan r
-  ceiling_read r h = rw lent.ceilings (get_or_listed most_resources (ceiling c.plan) r 0 (omega (arith, lent.accepted.resources_most)))
+  ceiling_read r h = lent.ceilings r h
 
   lent_in : (k : ℕ) → k < c.plan.tasks → in_section c.plan (task_at s k) ≡ true → section_ceiling c s k ≡ global_ceiling c.plan (last_held (task_at s k))
   unfolding last_held

@@ -1,9 +1,13 @@
 -- A plan text that was read: a run of an accepted plan starts legal, and a refused one prints its refusal.
 use mathlib.Core.Path.{◌≡◌, refl, sym}
+use native.Mathlib.Omega.{arith}
 use mathlib.Core.List.{List, [], ◌∷◌}
 use Prim.Native.Nat.{ℕ}
 use lib.ListN.{take}
 use Rattle.text.specs.Lines.{lines}
+use Rattle.below.proofs.Listed.{get_or_listed}
+use Rattle.plan.specs.Limits.{most_resources}
+use Rattle.plan.specs.Ceiling.{ceiling}
 use Rattle.plan.specs.declared.Plan.{Plan}
 use Rattle.plan.specs.declared.CeiledPlan.{CeiledPlan}
 use Rattle.plan.specs.Ceiled.{ceiled}
@@ -24,7 +28,12 @@ use Rattle.std.specs.Prelude.{Ok, Err}
 
 -- an accepted plan with its ceilings, and its fresh state
 pub start_lent : (p : Plan) → Accepted p → Lent (ceiled p) (fresh p)
-start_lent p A = record { accepted = A; ceilings = refl; legal = fresh_legal p A }
+start_lent p A =
+    record {
+      accepted = A;
+      ceilings = λ r h. get_or_listed most_resources (ceiling p) r 0 (omega (arith, A.resources_most));
+      legal = fresh_legal p A;
+    }
 
 -- the printed lines, by what the reader answers
 module _ (plan events : List ℕ) where

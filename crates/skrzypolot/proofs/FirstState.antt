@@ -10,11 +10,11 @@ use Rattle.reader.specs.declared.refusals.Refusal.{Refusal}
 use Rattle.reader.specs.Reading.{reading}
 use Rattle.exactly.proofs.Sound.{read_accepted}
 use Rattle.state.proofs.Fresh.{fresh_sized}
-use Rattle.legal.proofs.Fresh.{fresh_legal}
 use Rattle.run.specs.declared.stream.Stream.{Stream}
 use Rattle.run.specs.Standing.{Stands}
 use Rattle.run.specs.Stream.{At, start}
 use Rattle.run.specs.Fed.{at_of}
+use Rattle.run.proofs.Starting.{start_lent}
 
 -- a plan that was read
 pub read_plan : (text : List ℕ) (r : Result Plan Refusal) → r ≡ reading text → IfOk r Accepted
@@ -25,4 +25,4 @@ read_plan text (Err v) e = tt
 pub first_state : (p : Plan) → Accepted p → {c : CeiledPlan} → c ≡ ceiled p → (s : Stream) → at_of s ≡ start c.plan → Stands c s.state
 unfolding at_of start
 first_state p A g s e =
-    rw (ap (λ (x : At). x.state) e, g) (record { lent = record { accepted = A; ceilings = refl; legal = fresh_legal p A }; sized = fresh_sized p })
+    rw (ap (λ (x : At). x.state) e, g) (record { lent = start_lent p A; sized = fresh_sized p })

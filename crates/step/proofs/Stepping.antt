@@ -1,9 +1,10 @@
 -- A step on any plan and state record: 31, 32, or the event on what is lent.
-use mathlib.Core.Path.{◌≡◌, refl}
-use mathlib.Core.Bool.{true, false}
-use Prim.Native.Nat.{ℕ}
+use Rattle.std.proofs.Common.{◌≡◌, true, false, ℕ, arith}
 use Rattle.plan.specs.declared.Plan.{Plan}
+use Rattle.below.proofs.Listed.{get_or_listed}
+use Rattle.plan.specs.Limits.{most_resources}
 use Rattle.plan.specs.Accepted.{accepted}
+use Rattle.plan.specs.Ceiling.{ceiling}
 use Rattle.plan.specs.Ceiled.{ceiled}
 use Rattle.plan.proofs.Facts.{accepted_facts}
 use Rattle.state.specs.declared.State.{State}
@@ -27,4 +28,10 @@ module _ (p : Plan) (s : State) (kind k r : ℕ) where
 
 -- the tests have made sure of what the event asks for
 pub step_lent : (p : Plan) (s : State) → accepted p ≡ true → legal p s ≡ true → Lent (ceiled p) s
-step_lent p s e f = record { accepted = accepted_facts p e; ceilings = refl; legal = legal_facts p s (accepted_facts p e) f }
+step_lent p s e f =
+    let a = accepted_facts p e in
+    record {
+      accepted = a;
+      ceilings = λ r h. get_or_listed most_resources (ceiling p) r 0 (omega (arith, a.resources_most));
+      legal = legal_facts p s a f;
+    }
