@@ -3,5 +3,7 @@ pub mod Search
 pub mod Amounts
 pub mod Quotient
 pub mod Listed
+pub mod Filling
+pub mod Entries
 pub mod Least
 pub mod Chains
