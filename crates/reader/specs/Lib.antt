@@ -1,4 +1,5 @@
 pub mod Numbers
+pub mod Told
 pub mod Line
 pub mod Conditions
 pub mod Reading

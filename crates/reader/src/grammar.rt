@@ -83,15 +83,16 @@ pub fn line_of(s: &[u8]) -> Option<Line>
     }
 }
 
-// The place of a line's kind in the order of the kinds.
+// The place of a line's kind in the order of the kinds; a malformed line stands behind them all.
 #[tactic(auto, unfolding(crate::specs::Line::kind_of))]
-pub fn kind_of(l: Line) -> u8
-    ensures { result ≡ kind_of (Some l) }
+pub fn kind_of(l: Option<Line>) -> u8
+    ensures { result ≡ kind_of l }
 {
     match l {
-        Line::Subsystem { .. } => 0,
-        Line::Task { .. } => 1,
-        Line::Resource { .. } => 2,
-        Line::Uses { .. } => 3,
+        Some(Line::Subsystem { .. }) => 0,
+        Some(Line::Task { .. }) => 1,
+        Some(Line::Resource { .. }) => 2,
+        Some(Line::Uses { .. }) => 3,
+        None => 4,
     }
 }

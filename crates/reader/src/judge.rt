@@ -116,7 +116,7 @@ fn judge_rows(p: &Plan, n: u32, l: Line) -> Result<(), Refusal>
 pub fn judge(p: &Plan, last: u8, n: u32, l: Line) -> Result<(), Refusal>
     ensures { result ≡ judged p.now last n (Some l) }
 {
-    if kind_of(l) < last {
+    if kind_of(Some(l)) < last {
         return Err(Refusal::KindOrder(n));
     }
     judge_rows(p, n, l)

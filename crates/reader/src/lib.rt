@@ -8,6 +8,7 @@ mod build;
 pub mod grammar;
 mod judge;
 mod lines;
+pub mod numbers;
 mod refusals;
 
 use lines::read_lines;

@@ -31,7 +31,7 @@ pub fn read_lines(text: &[u8]) -> Result<Plan, Refusal>
         };
         judge(&plan, last, n, l)?;
         with_line(&mut plan, l);
-        last = kind_of(l);
+        last = kind_of(Some(l));
         n += 1;
         at = end + 1;
     }

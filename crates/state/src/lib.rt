@@ -1,6 +1,8 @@
 // The state of a run: its types, a fresh one, one with a thing changed, and what is read of one.
 #![tactic(auto)]
 
+ghost use Rattle.std.specs.Prelude.{◌≡◌, ◌-◌};
+
 mod one_task;
 mod rows;
 
@@ -10,6 +12,15 @@ pub struct BudgetLeft(pub u16);
 
 #[derive(Clone, Copy)]
 pub struct SectionLeft(pub u16);
+
+impl SectionLeft {
+    // What is left of a section of this length.
+    pub fn remaining(length: u16, used: u16) -> SectionLeft
+        ensures { result ≡ record { 0 = length - used } }
+    {
+        SectionLeft(length.saturating_sub(used))
+    }
+}
 
 // One task. condition: 0 idle, 1 ready, 2 started, 3 waiting. waits: the resource waited for, or 255. The first count entries of held
 // are the resources held, in the order taken; the others are 255.

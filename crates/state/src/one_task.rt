@@ -1,5 +1,5 @@
 // One task: what it holds, and the task with one thing changed. A place that is not there reads 255, as the definitions read it.
-ghost use Rattle.std.specs.Prelude.{◌≡◌, ◌<◌};
+ghost use Rattle.std.specs.Prelude.{◌≡◌, ◌&&◌, ◌<◌, leb, eqb, get_or};
 ghost use Rattle.state.specs.State.{idle_task, held_at, holds, last_held, in_section};
 ghost use Rattle.state.specs.Update.{readied, started, waiting_for, taking, giving_back};
 
@@ -44,12 +44,19 @@ impl Task {
         (0..self.count).any(|i| self.held_at(i) == r)
     }
 
-    // It holds a global resource, which is the last it took.
-    #[tactic(auto, unfolding(crate::specs::State::in_section))]
+    // By a column of kinds, however long: it holds a global resource, which is the last it took.
+    pub fn in_section_by(&self, kinds: &[u8]) -> bool
+        ensures { result ≡ (leb 1 self.now.count && eqb (get_or kinds.now (last_held self.now) 0) 1) }
+    {
+        1 <= self.count && kinds.get(self.last_held() as usize).copied().unwrap_or(0) == 1
+    }
+
+    // The same by the kinds of a plan.
+    #[tactic(auto, unfolding(crate::specs::State::in_section, plan::specs::Plan::is_global))]
     pub fn in_section(&self, p: &Plan) -> bool
         ensures { result ≡ in_section p.now self.now }
     {
-        1 <= self.count && p.is_global(self.last_held())
+        self.in_section_by(&p.kinds)
     }
 
     #[tactic(auto, unfolding(crate::specs::Update::readied))]

@@ -1,8 +1,9 @@
 // A state by its rows: what it says of a subsystem and of a task, and the state with one of these changed. All that the events alter goes through these.
 // A row past the end reads as the definitions read it, and changes nothing.
-ghost use Rattle.std.specs.Prelude.{◌≡◌, get_or};
+ghost use Rattle.std.specs.Prelude.{◌≡◌, ◌-◌, get_or};
 ghost use Rattle.plan.specs.Limits.{no_row};
-ghost use Rattle.state.specs.State.{held_place, task_at, left_of, refill_of, used_of, section_left};
+ghost use Rattle.plan.specs.Plan.{place};
+ghost use Rattle.state.specs.State.{last_held, held_place, task_at, left_of, refill_of, used_of, section_left};
 ghost use Rattle.state.specs.Update.{with_task, with_left, with_used};
 ghost use Rattle.state.specs.Fresh.{fresh};
 
@@ -75,13 +76,29 @@ impl State {
         self.used.get(c as usize).copied().unwrap_or(0)
     }
 
-    // Section length left of task k: q, a count of its own type.
-    #[tactic(auto, unfolding(crate::specs::State::section_left))]
+    // By columns of a plan and of used counts, however long: section length left of task k, whose resources are those of this state.
+    #[tactic(auto, unfolding(plan::specs::Plan::place))]
+    pub fn section_left_by(
+        &self,
+        owners: &[u8],
+        lengths: &[u16],
+        used: &[u16],
+        k: u8,
+    ) -> SectionLeft
+        ensures { result ≡ record { 0 = get_or lengths.now (place k (last_held (task_at self.now k))) 0 - get_or used.now (get_or owners.now k 0) 0 } }
+    {
+        let owner = owners.get(k as usize).copied().unwrap_or(0);
+        let place = (k as usize) * 16 + (self.task(k).last_held() as usize);
+        let length = lengths.get(place).copied().unwrap_or(0);
+        SectionLeft::remaining(length, used.get(owner as usize).copied().unwrap_or(0))
+    }
+
+    // Section length left of task k by a plan and this state: q, a count of its own type.
+    #[tactic(auto, unfolding(crate::specs::State::section_left, crate::specs::State::used_of, plan::specs::Plan::length_of, plan::specs::Plan::owner))]
     pub fn section_left(&self, p: &Plan, k: u8) -> SectionLeft
         ensures { result ≡ section_left p.now self.now k }
     {
-        let length = p.length(k, self.task(k).last_held());
-        SectionLeft(length.saturating_sub(self.used_of(p.owner(k))))
+        self.section_left_by(&p.owners, &p.lengths, &self.used, k)
     }
 
     // Another task at row k.
