@@ -74,6 +74,11 @@ module _ (block image : List ℕ) where
   unfolding both_long
   short_image h = opened_by false _ _ (rw (ne_eqb (length image) image_bytes h) (and-false (eqb (length block) block_bytes))) refl refl
 
+  -- and a block of the wrong length, whatever the image
+  pub short_block : (length block ≡ block_bytes → ⊥) → Err Length ≡ opened block image
+  unfolding both_long
+  short_block h = opened_by false _ _ (rw (ne_eqb (length block) block_bytes h) refl) refl refl
+
   module _ (full : length image ≡ image_bytes) where
     -- a block that is not read
     pub no_block : {r : Result Plan Unopened} {e : Unopened} → r ≡ block_read block → r ≡ Err e → Err e ≡ opened block image

@@ -6,10 +6,13 @@ use crate::blocks::read_block;
 use crate::images::{pads_clear, read_state};
 use crate::{Opened, Unopened};
 
-// Ceilings are worked out once, for the test of the state and for the caller.
+// Both lengths first, before there is room for a plan. Ceilings are worked out once, for the test of the state and for the caller.
 pub fn open(block: &[u8], image: &[u8]) -> Result<Opened, Unopened>
     ensures { result ≡ opened block.now image.now }
 {
+    if block.len() != 1108 {
+        return Err(Unopened::Length);
+    }
     if image.len() != 320 {
         return Err(Unopened::Length);
     }

@@ -39,7 +39,7 @@ fn with_ended(ended: u32, k: u8) -> u32
     if 32 <= k {
         return ended;
     }
-    ended.saturating_add(1u32 << (k as u32))
+    ended.checked_add(1u32 << (k as u32)).unwrap_or(ended)
 }
 
 // (a) Task k is ended, all it holds is freed and used is set to 0.

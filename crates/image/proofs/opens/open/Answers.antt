@@ -1,7 +1,10 @@
 -- Lengths, the block, the bytes that are always 0, and the state are tested in this order. Each end is one of the definition's.
 use Rattle.std.proofs.Common.{◌≡◌, Err, ◌∙◌, arith, rules}
-use Rattle.image.proofs.OpenedLaws.{is_read, short_image, no_block, padded, not_legal, both_opened}
+use Rattle.image.proofs.OpenedLaws.{is_read, short_block, short_image, no_block, padded, not_legal, both_opened}
 use Rattle.image.proofs.opens.open.Goals as goal
+
+pub returns-then-block-ne1108 : goal.returns-then-block-ne1108
+returns-then-block-ne1108 c = short_block _ _ (λ h. c.if-block-ne1108.true (omega arith))
 
 pub returns-then-image-ne320 : goal.returns-then-image-ne320
 returns-then-image-ne320 c = short_image _ _ (λ h. c.if-image-ne320.true (omega arith))
